@@ -1,0 +1,7 @@
+-- A row of ticks with room for more.
+use Rattle.std.specs.Prelude.{ℕ, List}
+
+-- the ticks so far, and how many there may be
+pub record Row : Type 0 where
+  pub ticks : List ℕ
+  pub room : ℕ
