@@ -8,8 +8,8 @@ use Rattle.fleet_base.specs.declared.order.Pair.{Pair}
 use Rattle.fleet_base.specs.declared.order.Side.{Side}
 use Rattle.fleet_base.specs.declared.geometry.PlannedVisit.{PlannedVisit}
 use Rattle.fleet_base.specs.Lists.{row_of}
-use Rattle.fleet_base.specs.Plan.{AreRoutes, visits_of}
-use Rattle.fleet_base.specs.Order.{Graph, graph_of}
+use Rattle.fleet_base.specs.Plan.{visits_of}
+use Rattle.fleet_base.specs.Order.{Graph}
 use Rattle.fleet_base.specs.State.{FleetState, AreTickRows, HasShape, AreOfPlan, start_of}
 use Rattle.fleet_base.proofs.GraphLaws.{length-map, get_or-map}
 

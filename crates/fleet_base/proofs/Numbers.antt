@@ -1,7 +1,7 @@
 -- What a number is spelled like, and what the parser of std reads.
-use Rattle.std.proofs.Common.{ℕ, suc, zero, ◌≡◌, ◌≢◌, ◌+◌, ◌-◌, ◌*◌, ◌/◌, ◌%◌, ◌^◌, ◌<◌, ◌≤◌, ◌⊎◌, List, [], ◌∷◌, ◌++◌, refl, sym, ap, ◌∙◌, subst, inl, inr, arith, length, get_or}
+use Rattle.std.proofs.Common.{ℕ, suc, zero, ◌≡◌, ◌+◌, ◌/◌, ◌%◌, ◌^◌, ◌<◌, ◌≤◌, List, [], ◌∷◌, ◌++◌, refl, sym, ap, ◌∙◌, subst, inl, inr, arith, length, get_or}
 use Rattle.std.proofs.lemmas.List.{append_assoc}
-use Rattle.std.specs.Prelude.{decimal, Result, Ok, Err, slice_index}
+use Rattle.std.specs.Prelude.{decimal, Result, Ok, Err}
 use Rattle.std.proofs.lemmas.Result.{OkIff-at_ok, OkIff-at_err}
 use Rattle.std.specs.Str.{IsUtf8}
 use Rattle.std.specs.Str.Parse.{AllDigits, digits_value, ParsesUnsigned}
@@ -50,7 +50,7 @@ number_refused text r e plain err p n h =
     OkIff-at_err r _ (digits_value 10 text) e (parse_plain own 64 text r p (λ k. plain (inl k))) err (
       subst (AllDigits 10) (sym h.digits) (digits_decimal own n h.fits),
       omega (arith, decimal_nonempty n h.fits, ap (λ (t : List ℕ). length t) h.digits),
-      omega (arith, h.fits, ap (digits_value 10) h.digits ∙ digits_value-decimal own n h.fits)
+      omega (arith, h.fits, ap (digits_value 10) h.digits ∙ digits_value-decimal own n h.fits),
     )
 
 -- the last digit behind the digits before it

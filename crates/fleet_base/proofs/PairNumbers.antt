@@ -1,6 +1,6 @@
 -- The numbers of the pairs of each visit, as they are noted pair by pair.
-use Rattle.std.proofs.Common.{ℕ, suc, zero, ◌≡◌, ◌≢◌, ◌+◌, ◌-◌, ◌<◌, ◌≤◌, ◌⊎◌, List, [], ◌∷◌, ◌++◌, true, false, Bool, cond, refl, sym, ap, ◌∙◌, subst, inl, inr, arith, length, get_or, set, map, take}
-use Rattle.std.specs.Prelude.{◌&&◌, ◌||◌, ◌==◌, Contains, slice_get, Some, replicate}
+use Rattle.std.proofs.Common.{ℕ, suc, zero, ◌≡◌, ◌≢◌, ◌+◌, ◌<◌, List, [], ◌∷◌, ◌++◌, true, false, Bool, cond, refl, sym, ap, ◌∙◌, subst, arith, length, get_or, set, take}
+use Rattle.std.specs.Prelude.{◌&&◌, ◌||◌, ◌==◌, Contains, replicate}
 use Rattle.std.proofs.lemmas.Bool.{eqb-true, eq-eqb}
 use Rattle.std.proofs.lemmas.List.Elements.{Contains-get_or}
 use Rattle.std.proofs.lemmas.List.{take_more, map-append, length-take, get_or-set_same, get_or-set_other, length-set, append-nil}
@@ -12,7 +12,7 @@ use Rattle.fleet_base.specs.Lists.{row_of}
 use Rattle.fleet_base.specs.Plan.{IsOnRoute, AreRoutes, last_of}
 use Rattle.fleet_base.specs.Pairs.{pairs_of, numbers_from, numbers_of, same_visit}
 use Rattle.fleet_base.specs.PairLists.{numbers_at, AreNumbers, no_numbers, noted, HasList}
-use Rattle.fleet_base.proofs.PairLaws.{listed_pair, IsPairOf}
+use Rattle.fleet_base.proofs.PairLaws.{listed_pair}
 use Rattle.fleet_base.proofs.GraphLaws.{length-map, get_or-map_default, route_is_some}
 
 abbrev visit : ℕ → ℕ → Visit

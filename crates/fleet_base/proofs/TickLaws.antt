@@ -1,5 +1,5 @@
 -- One tick more in a row.
-use Rattle.std.proofs.Common.{ℕ, ◌≡◌, ◌+◌, ◌<◌, ◌≤◌, List, [], ◌∷◌, ◌++◌, refl, sym, ap, ◌∙◌, subst, arith, length, get_or, set, map}
+use Rattle.std.proofs.Common.{ℕ, ◌≡◌, ◌<◌, List, [], ◌∷◌, ◌++◌, sym, ap, ◌∙◌, subst, arith, length, get_or, set, map}
 use Rattle.std.proofs.lemmas.List.{map-set}
 use Rattle.std.proofs.Math.Seq.{map-set_same}
 use Rattle.fleet_base.specs.Lists.{row_of}
@@ -20,7 +20,7 @@ pub room_left : (rows : List Row) (x : Rows) (i : ℕ) (row : Row) → rows_of r
 room_left rows x i row is h e left =
     let there : i < length (rows_of rows).ticks = subst (λ (y : Rows). i < length y.ticks) (sym is) h in
     let in_rows : i < length rows = omega (arith, there, length-map (λ (r : Row). r.ticks) rows) in
-    let room : get_or (rows_of rows).rooms i 0 ≡ row.room = get_or-map (λ (r : Row). r.room) rows i row 0 in_rows ∙ ap (λ (r : Row). r.room) (sym e) in
+    let room : get_or (rows_of rows).rooms i 0 ≡ row.room = get_or-map (λ (r : Row). r.room) rows i row (0) in_rows ∙ ap (λ (r : Row). r.room) (sym e) in
     let said : length (row_of (rows_of rows).ticks i) < get_or (rows_of rows).rooms i 0 = subst (λ (y : Rows). length (row_of y.ticks i) < get_or y.rooms i 0) (sym is) left in
     omega (arith, said, room, ap (λ (ts : List ℕ). length ts) (row_there rows i row there e))
 

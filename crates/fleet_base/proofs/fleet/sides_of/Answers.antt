@@ -1,4 +1,4 @@
-use Rattle.std.proofs.Common.{◌≡◌, ◌++◌, ◌∷◌, [], List, ap, sym, ◌∙◌}
+use Rattle.std.proofs.Common.{◌++◌, ◌∷◌, [], List, ap, sym, ◌∙◌}
 use Rattle.fleet_base.specs.declared.order.Side.{Side}
 use Rattle.fleet_base.proofs.FleetLaws.{sides_more}
 use Rattle.fleet_base.proofs.fleet.sides_of.Goals as goal

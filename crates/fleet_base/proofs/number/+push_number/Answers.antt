@@ -1,4 +1,4 @@
-use Rattle.std.proofs.Common.{ℕ, List, ◌≡◌, ◌+◌, ◌++◌, ◌∷◌, [], ◌<◌, ◌≤◌, ◌/◌, ◌%◌, ◌∙◌, ap, sym, arith, decimal}
+use Rattle.std.proofs.Common.{ℕ, List, ◌≡◌, ◌+◌, ◌++◌, ◌∷◌, [], ◌/◌, ◌%◌, ◌∙◌, ap, sym, arith, decimal}
 use Rattle.std.proofs.lemmas.Result.{on_ok_weaker, on_err_weaker, err_from_is_err_and}
 use Rattle.std.proofs.lemmas.Fmt.{decimal_digit}
 use Rattle.fleet_base.proofs.Numbers.{last_digit, before_last, all_but_last_digit}

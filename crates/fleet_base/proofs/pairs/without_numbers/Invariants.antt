@@ -1,7 +1,5 @@
-use Rattle.std.proofs.Common.{◌≡◌, ℕ, take, map, List, []}
-use Rattle.std.specs.Prelude.{replicate}
+use Rattle.std.proofs.Common.{◌≡◌, take}
 use Rattle.fleet_base.specs.PairLists.{no_numbers}
-use Rattle.fleet_base.specs.declared.order.PairId.{PairId}
 use Rattle.fleet_base.proofs.pairs.without_numbers.Given as goal
 
 abbrev pub invariant-loop-robot : goal.invariant-loop-robot

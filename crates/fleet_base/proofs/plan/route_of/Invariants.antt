@@ -1,4 +1,4 @@
-use Rattle.std.proofs.Common.{◌≡◌, ◌+◌, ◌++◌, ◌∷◌, drop}
+use Rattle.std.proofs.Common.{◌≡◌, ◌+◌, ◌++◌, drop}
 use Rattle.fleet_base.specs.Plan.{later_visits, visits_of_path}
 use Rattle.fleet_base.proofs.plan.route_of.Given as goal
 

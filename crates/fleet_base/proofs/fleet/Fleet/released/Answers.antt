@@ -1,4 +1,4 @@
-use Rattle.std.proofs.Common.{◌≡◌, ◌<◌, List, ℕ, ap, arith, length}
+use Rattle.std.proofs.Common.{◌<◌, ap, arith, length}
 use Rattle.fleet_base.specs.State.{FleetState}
 use Rattle.fleet_base.proofs.FleetLaws.{last_is_small}
 use Rattle.fleet_base.proofs.fleet.Fleet.released.Goals as goal

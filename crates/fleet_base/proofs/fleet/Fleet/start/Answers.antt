@@ -1,4 +1,4 @@
-use Rattle.std.proofs.Common.{◌≡◌, ◌+◌, ◌∙◌, List, ℕ, ap, rules, map, arith, length}
+use Rattle.std.proofs.Common.{◌+◌, ◌∙◌, List, ℕ, ap, rules, map, arith, length}
 use Rattle.fleet_base.specs.declared.order.Pair.{Pair}
 use Rattle.fleet_base.specs.declared.order.Side.{Side}
 use Rattle.fleet_base.specs.TickRows.{Rows}

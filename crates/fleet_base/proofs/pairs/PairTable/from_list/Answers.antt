@@ -1,5 +1,4 @@
-use Rattle.std.proofs.Common.{◌≡◌, ◌+◌, [], List, subst, sym, take}
-use Rattle.fleet_base.specs.declared.order.Pair.{Pair}
+use Rattle.std.proofs.Common.{◌+◌, [], List, subst, sym, take}
 use Rattle.fleet_base.specs.declared.order.PairId.{PairId}
 use Rattle.fleet_base.proofs.PairNumbers.{AreNoted, none_noted, listed_at, lower_has_list, higher_has_list, next_noted}
 use Rattle.fleet_base.proofs.pairs.PairTable.from_list.Goals as goal
