@@ -1,0 +1,11 @@
+pub mod Numerals
+pub mod Steps
+pub mod Runs
+pub mod Paths
+pub mod Labels
+pub mod LineLaws
+pub mod Reading
+pub mod Outcomes
+pub mod Canonical
+pub mod Sample
+pub mod OneFault

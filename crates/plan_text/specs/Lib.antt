@@ -1,0 +1,4 @@
+pub mod PlanText
+pub mod PlanFaults
+pub mod PlanErrors
+pub mod Places
