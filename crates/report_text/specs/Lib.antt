@@ -1,0 +1,4 @@
+pub mod AnswerLine
+pub mod Reading
+pub mod ReportLine
+pub mod Writing

@@ -1,0 +1,40 @@
+ghost use Rattle.std.specs.Prelude.{◌≡◌, [], ◌∷◌, ◌++◌, OnOk, OnErr, flat_map};
+ghost use Rattle.fleet_base.specs.Bytes.{field};
+ghost use Rattle.report_text.specs.Reading.{spelled};
+ghost use Rattle.report_text.specs.Writing.{AppendsFront};
+
+use fleet_base::{Memory, Text, push_number};
+
+/// Appends the line of these words and numbers and its line end. For want of memory some of it is
+/// missing at the end.
+pub fn push_line(out: &mut Text, words: &[u8], numbers: &[u64]) -> Result<(), Memory>
+    ensures ok { OnOk result (out.new ≡ out.old ++ (spelled words.now numbers.now ++ 10 ∷ [])) }
+    ensures err { OnErr result
+        (AppendsFront out.old out.new (spelled words.now numbers.now ++ 10 ∷ [])) }
+{
+    push_bytes(out, words)?;
+    push_fields(out, numbers)?;
+    out.push(b'\n')
+}
+
+/// Appends a space and each number.
+fn push_fields(out: &mut Text, numbers: &[u64]) -> Result<(), Memory>
+    ensures ok { OnOk result (out.new ≡ out.old ++ flat_map field numbers.now) }
+    ensures err { OnErr result (AppendsFront out.old out.new (flat_map field numbers.now)) }
+{
+    for number in numbers {
+        out.push(b' ')?;
+        push_number(out, *number)?;
+    }
+    Ok(())
+}
+
+fn push_bytes(out: &mut Text, bytes: &[u8]) -> Result<(), Memory>
+    ensures ok { OnOk result (out.new ≡ out.old ++ bytes.now) }
+    ensures err { OnErr result (AppendsFront out.old out.new bytes.now) }
+{
+    for byte in bytes {
+        out.push(*byte)?;
+    }
+    Ok(())
+}
