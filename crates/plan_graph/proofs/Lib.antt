@@ -1,0 +1,10 @@
+pub mod Numbers
+pub mod PlanGraphs
+pub mod Listing
+pub mod Passing
+pub mod Waits
+pub mod Places
+pub mod Cycles
+pub mod Deciding
+pub mod Steps
+pub mod Accepting
