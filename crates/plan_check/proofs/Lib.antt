@@ -1,0 +1,11 @@
+pub mod Order
+pub mod Rings
+pub mod Staying
+pub mod Accepted
+pub mod OneFirst
+pub mod Listing
+pub mod Firsts
+pub mod Shares
+pub mod Exchanges
+pub mod Walking
+pub mod Steps
