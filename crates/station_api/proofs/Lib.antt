@@ -1,0 +1,5 @@
+pub mod MemoryDisk
+pub mod Moments
+pub mod Pushed
+pub mod StationCalls
+pub mod Stop

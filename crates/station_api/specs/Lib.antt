@@ -1,0 +1,14 @@
+pub mod Causes
+pub mod Clock
+pub mod Disk
+pub mod Files
+pub mod Meter
+pub mod Past
+pub mod Playing
+pub mod Reading
+pub mod Replay
+pub mod Scene
+pub mod ShelfState
+pub mod SourceState
+pub mod StationState
+pub mod Stop

@@ -1,0 +1,24 @@
+-- What a shelf in memory is: its files, the newest first, and how its calls are counted.
+use Rattle.std.specs.Prelude.{ℕ, List, Option}
+use Rattle.station_api.specs.Causes.{Counts}
+use Rattle.station_api.specs.Files.{file_in}
+use Rattle.station_api.specs.Meter.{counts_in}
+use Rattle.station_api.specs.declared.mem_shelf.File.{File}
+use Rattle.station_api.specs.declared.meter.Meter.{Meter}
+
+-- a shelf in memory
+pub record ShelfState : Type 0 where
+  pub files : List File
+  pub meter : Meter
+
+-- the bytes of the file of a name
+abbrev pub shelf_file : ShelfState → List ℕ → Option (List ℕ)
+shelf_file shelf name = file_in shelf.files name
+
+-- how often it has failed
+abbrev pub shelf_counts : ShelfState → Counts
+shelf_counts shelf = counts_in shelf.meter
+
+-- the numbers of the calls that are to fail
+abbrev pub shelf_fails_at : ShelfState → List ℕ
+shelf_fails_at shelf = shelf.meter.failing.items
