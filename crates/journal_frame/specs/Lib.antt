@@ -1,0 +1,5 @@
+pub mod Texts
+pub mod Entries
+pub mod Headers
+pub mod Frames
+pub mod Reading
