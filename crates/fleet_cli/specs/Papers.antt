@@ -1,0 +1,54 @@
+-- The map and the plan that a command names, as far as a shelf tells its files.
+use Rattle.std.specs.Prelude.{ℕ, ◌≡◌, ◌^◌, ◌<◌, ◌≤◌, List, length, Option, Some}
+use Rattle.fleet_base.specs.declared.geometry.Cell.{Cell}
+use Rattle.fleet_base.specs.declared.geometry.PlannedVisit.{PlannedVisit}
+use Rattle.fleet_base.specs.Grid.{OccupancyGrid}
+use Rattle.fleet_base.specs.Plan.{IsAccepted, visits_of}
+use Rattle.fleet_base.specs.Pairs.{pairs_of}
+use Rattle.map_text.specs.MapText.{IsMapText}
+use Rattle.plan_text.specs.PlanText.{IsPlanText}
+
+-- the files of a shelf, and whether it tells them
+pub record Files : Type 1 where
+  pub tells : Type 0
+  pub file : List ℕ → Option (List ℕ)
+
+-- where the shelf tells its files, the one of this name has these bytes
+abbrev pub IsFile : Files → List ℕ → List ℕ → Type 0
+IsFile files name bytes = files.tells → files.file name ≡ Some bytes
+
+-- the file is longer than 2^25 bytes, and so long
+pub record IsLong (files : Files) (name : List ℕ) (n : ℕ) : Type 0 where
+  pub above : 2 ^ 25 < n
+  pub is_file : files.tells → (bytes : List ℕ) × (files.file name ≡ Some bytes) × (n ≡ length bytes)
+
+-- the file has these bytes, at most 2^25 of them
+pub record IsPaper (files : Files) (name bytes : List ℕ) : Type 0 where
+  pub is_file : IsFile files name bytes
+  pub small : length bytes ≤ 2 ^ 25
+
+-- the file of this name is a map
+pub record HasMap (files : Files) (map_name : List ℕ) (grid : OccupancyGrid) : Type 0 where
+  pub bytes : List ℕ
+  pub paper : IsPaper files map_name bytes
+  pub text : IsMapText bytes grid
+
+-- and the other file is a plan
+pub record HasPlan (files : Files) (map_name plan_name : List ℕ) (grid : OccupancyGrid) (plan : List (List Cell)) : Type 0 where
+  pub on : HasMap files map_name grid
+  pub bytes : List ℕ
+  pub paper : IsPaper files plan_name bytes
+  pub text : IsPlanText bytes plan
+
+-- and the plan is accepted on the map, with these routes
+pub record HasRoutes (files : Files) (map_name plan_name : List ℕ) (routes : List (List PlannedVisit)) : Type 0 where
+  pub grid : OccupancyGrid
+  pub plan : List (List Cell)
+  pub papers : HasPlan files map_name plan_name grid plan
+  pub accepted : IsAccepted grid plan
+  pub visits : routes ≡ visits_of plan
+
+-- the plan of these files is accepted, with these routes, and has few enough pairs
+pub record IsSoundPaper (files : Files) (map_name plan_name : List ℕ) (routes : List (List PlannedVisit)) : Type 0 where
+  pub papers : HasRoutes files map_name plan_name routes
+  pub few : length (pairs_of routes) ≤ 1048576

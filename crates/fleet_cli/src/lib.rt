@@ -1,0 +1,16 @@
+//! The top call of the fleet executive: all that the program does, over whatever stands for the outside.
+#![tactic(auto)]
+
+mod fault;
+pub mod laws;
+mod lines;
+mod papers;
+mod reply;
+mod sending;
+#[cfg(test)]
+mod tests;
+mod top;
+mod words;
+mod writing;
+
+pub use top::fleet_main;
