@@ -1,0 +1,13 @@
+//! Trials of the crates of a plan together: texts are read and checked, and their pairs and ranks are compared with slow ones.
+#![tactic(auto)]
+
+#[cfg(test)]
+mod limits;
+#[cfg(test)]
+mod reading;
+#[cfg(test)]
+mod slow;
+#[cfg(test)]
+mod tests;
+#[cfg(test)]
+mod walks;
