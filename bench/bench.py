@@ -1,0 +1,102 @@
+#!/usr/bin/env python3
+"""Times `fleet check` on large files of its own making, beside `cksum` and `wc -w` of the same files.
+
+Usage: bench/bench.py PROGRAM
+
+Each row is one pair of files. The time is the least of nine runs, as the processor time of the process; the memory is the
+greatest resident size. The table is written in Markdown.
+"""
+import os
+import subprocess
+import sys
+import tempfile
+
+RUNS = 9
+SIDE = 4096
+LISTED = 4097
+
+
+def run(command):
+    """The processor seconds and the peak memory in MB of one run, with what it wrote."""
+    reader, writer = os.pipe()
+    child = os.fork()
+    if child == 0:
+        os.dup2(writer, 1)
+        os.execvp(command[0], command)
+    os.close(writer)
+    with os.fdopen(reader, "rb") as pipe:
+        out = pipe.read()
+    _, _, usage = os.wait4(child, 0)
+    return usage.ru_utime + usage.ru_stime, usage.ru_maxrss / 1024, out.decode().strip()
+
+
+def least(command):
+    """The least time of several runs, with its memory and output."""
+    return min((run(command) for _ in range(RUNS)), key=lambda row: row[0])
+
+
+def write_map(path):
+    with open(path, "w") as file:
+        file.write(f"type octile\nheight {SIDE}\nwidth {SIDE}\nmap\n")
+        file.write(("." * SIDE + "\n") * SIDE)
+
+
+def write_plan(path, robots, cells_of):
+    with open(path, "w") as file:
+        for robot in range(robots):
+            cells = "->".join(f"({row},{column})" for row, column in cells_of(robot))
+            file.write(f"Agent {robot}: {cells}\n")
+
+
+def spread(robots):
+    """Robots in rows of their own that move once in 16 ticks: 256 visits and 4,097 listed cells each, no pairs."""
+    return lambda robot: ((16 * robot, min(tick // 16, 255)) for tick in range(LISTED))
+
+
+def convoy(robots, steps):
+    """Robots behind one another in one row, all moving at each tick: the cells that two of them pass are pairs."""
+    return lambda robot: ((0, robots - 1 - robot + tick) for tick in range(steps + 1))
+
+
+def pairs_of_convoy(robots, steps):
+    return sum((robots - apart) * (steps + 1 - apart) for apart in range(1, min(robots, steps + 1)))
+
+
+def longest_convoy(robots, most):
+    steps = 1
+    while pairs_of_convoy(robots, steps + 1) <= most:
+        steps += 1
+    return steps
+
+
+def moving(robots):
+    """Robots in rows of their own that move at each tick: too many visits, so the plan is read and then refused."""
+    return lambda robot: ((16 * robot, tick % SIDE if tick < SIDE else SIDE - 2) for tick in range(LISTED))
+
+
+def main():
+    program = os.path.abspath(sys.argv[1])
+    rows = []
+    for robots in (32, 64, 128, 256):
+        rows.append((f"{robots} robots, {LISTED:,} cells listed, 256 visits each", robots, spread(robots)))
+    steps = longest_convoy(256, 1048576)
+    rows.append((f"256 robots, pairs just below the limit", 256, convoy(256, steps)))
+    rows.append((f"256 robots, more pairs than the limit", 256, convoy(256, 255)))
+    rows.append((f"256 robots, {LISTED:,} cells listed, too many visits", 256, moving(256)))
+    print("| plan (map 4,096 x 4,096) | MB of both files | answer | times `cksum` | times `wc -w` | peak MB |")
+    print("|---|---|---|---|---|---|")
+    with tempfile.TemporaryDirectory() as folder:
+        map_path, plan_path = (os.path.join(folder, name) for name in ("M", "P"))
+        write_map(map_path)
+        for name, robots, cells_of in rows:
+            write_plan(plan_path, robots, cells_of)
+            size = (os.path.getsize(map_path) + os.path.getsize(plan_path)) / 1e6
+            seconds, memory, answer = least([program, "check", map_path, plan_path])
+            sums = least(["cksum", map_path, plan_path])[0]
+            words = least(["wc", "-w", map_path, plan_path])[0]
+            print(f"| {name} | {size:.1f} | `{answer}` | {seconds / sums:.0f} | {seconds / words:.1f} | {memory:.0f} |")
+            print(f"{name}: {seconds:.3f} s, cksum {sums:.3f} s, wc {words:.3f} s", file=sys.stderr)
+
+
+if __name__ == "__main__":
+    main()
