@@ -1,17 +1,17 @@
 #!/usr/bin/env python3
-"""Times `fleet check` on large files of its own making, beside `cksum` and `wc -w` of the same files.
+"""Times `fleet check` on large files of its own making, beside `cksum` and `wc -w` of the same files, and rankings.
 
-Usage: bench/bench.py PROGRAM
+Usage: bench/bench.py FLEET RANK_BENCH
 
-Each row is one pair of files. The time is the least of nine runs, as the processor time of the process; the memory is the
-greatest resident size. The table is written in Markdown.
+Each row of the first table is one pair of files, each row of the second one plan. A time is the least of nine runs, as the
+processor time of the process; the memory is the greatest resident size. The tables are written in Markdown.
 """
 import os
-import subprocess
 import sys
 import tempfile
 
 RUNS = 9
+RANKS = 40
 SIDE = 4096
 LISTED = 4097
 
@@ -74,14 +74,13 @@ def moving(robots):
     return lambda robot: ((16 * robot, tick % SIDE if tick < SIDE else SIDE - 2) for tick in range(LISTED))
 
 
-def main():
-    program = os.path.abspath(sys.argv[1])
+def check_table(program):
     rows = []
     for robots in (32, 64, 128, 256):
         rows.append((f"{robots} robots, {LISTED:,} cells listed, 256 visits each", robots, spread(robots)))
     steps = longest_convoy(256, 1048576)
-    rows.append((f"256 robots, pairs just below the limit", 256, convoy(256, steps)))
-    rows.append((f"256 robots, more pairs than the limit", 256, convoy(256, 255)))
+    rows.append(("256 robots, pairs just below the limit", 256, convoy(256, steps)))
+    rows.append(("256 robots, more pairs than the limit", 256, convoy(256, 255)))
     rows.append((f"256 robots, {LISTED:,} cells listed, too many visits", 256, moving(256)))
     print("| plan (map 4,096 x 4,096) | MB of both files | answer | times `cksum` | times `wc -w` | peak MB |")
     print("|---|---|---|---|---|---|")
@@ -96,6 +95,23 @@ def main():
             words = least(["wc", "-w", map_path, plan_path])[0]
             print(f"| {name} | {size:.1f} | `{answer}` | {seconds / sums:.0f} | {seconds / words:.1f} | {memory:.0f} |")
             print(f"{name}: {seconds:.3f} s, cksum {sums:.3f} s, wc {words:.3f} s", file=sys.stderr)
+
+
+def rank_table(program):
+    print("| pairs | visits | milliseconds of one ranking | peak MB |")
+    print("|---|---|---|---|")
+    for most in (262144, 524288, 1048576):
+        steps = longest_convoy(256, most)
+        before = least([program, "256", str(steps), "0"])[0]
+        after, memory, _ = least([program, "256", str(steps), str(RANKS)])
+        each = 1000 * (after - before) / RANKS
+        print(f"| {pairs_of_convoy(256, steps):,} | {256 * (steps + 1):,} | {each:.0f} | {memory:.0f} |")
+
+
+def main():
+    check_table(os.path.abspath(sys.argv[1]))
+    print()
+    rank_table(os.path.abspath(sys.argv[2]))
 
 
 if __name__ == "__main__":
