@@ -6,6 +6,8 @@ mod limits;
 #[cfg(test)]
 mod reading;
 #[cfg(test)]
+mod reports;
+#[cfg(test)]
 mod slow;
 #[cfg(test)]
 mod tests;
