@@ -144,7 +144,7 @@ module _ (g : Graph) (x : FleetState) (i k tick : ℕ) (s : IsFleetState g x) (a
           let n : v.robot < length g.lasts = omega (arith, robot_there x.releases v.robot v.index h, s.fleet.releases) in
           (s.releases.last v.robot n).clear q u v e refl (omega (arith, h))
 
-  heard_keeps : IsHeard g heard
+  pub heard_keeps : IsHeard g heard
   heard_keeps = record {
     fleet = record {
       graph = s.fleet.graph;

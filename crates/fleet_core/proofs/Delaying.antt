@@ -53,12 +53,12 @@ slice_get-set_other (x ∷ xs) zero (suc q) y ne = refl
 slice_get-set_other (x ∷ xs) (suc p) zero y ne = refl
 slice_get-set_other (x ∷ xs) (suc p) (suc q) y ne = slice_get-set_other xs p q y (λ e. ne (ap suc e))
 
-length-turned : (sides : List Side) (qs : List PairId) → length (turned sides qs) ≡ length sides
+pub length-turned : (sides : List Side) (qs : List PairId) → length (turned sides qs) ≡ length sides
 length-turned sides [] = refl
 length-turned sides (q ∷ qs) = length-turned (set sides q.0 (other_side (get_or sides q.0 Lower))) qs ∙ length-set sides q.0 (other_side (get_or sides q.0 Lower))
 
 -- a pair has its old side, or is one of those that were turned
-turned_or_old : (sides : List Side) (qs : List PairId) (q : ℕ) → (order_of (turned sides qs) q ≡ order_of sides q) ⊎ ((p : PairId) × Contains qs p × (p.0 ≡ q))
+pub turned_or_old : (sides : List Side) (qs : List PairId) (q : ℕ) → (order_of (turned sides qs) q ≡ order_of sides q) ⊎ ((p : PairId) × Contains qs p × (p.0 ≡ q))
 turned_or_old sides [] q = inl refl
 turned_or_old sides (p ∷ ps) q = go (turned_or_old (set sides p.0 (other_side (get_or sides p.0 Lower))) ps q) (cases_eq q p.0)
   where
@@ -70,7 +70,7 @@ turned_or_old sides (p ∷ ps) q = go (turned_or_old (set sides p.0 (other_side 
 
 -- ---- open pairs
 
-both_not : (a b : Bool) → (not a && not b) ≡ true → (a ≡ false) × (b ≡ false)
+pub both_not : (a b : Bool) → (not a && not b) ≡ true → (a ≡ false) × (b ≡ false)
 both_not true b h = cc
 both_not false true h = cc
 both_not false false h = (refl, refl)
@@ -161,7 +161,7 @@ module _ (g : Graph) (x : FleetState) (i k extra tick : ℕ) (switched : List Pa
       go (inl e) = e ∙ s.no_delay j h
       go (inr e) = absurd (omega (arith, e.1, a.ahead))
 
-  heard_keeps : IsHeard g heard
+  pub heard_keeps : IsHeard g heard
   heard_keeps = record {
     fleet = record {
       graph = s.fleet.graph;

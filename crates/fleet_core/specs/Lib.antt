@@ -1,2 +1,5 @@
 pub mod Judgement
 pub mod Step
+pub mod Preparing
+pub mod Switching
+pub mod Pushing

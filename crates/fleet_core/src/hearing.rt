@@ -2,7 +2,7 @@
 ghost use Rattle.std.specs.Prelude.{◌≡◌, ◌<◌, ◌^◌, IfOk};
 ghost use Rattle.fleet_core.specs.declared.judging.Judged.TheVariants.{Accept};
 ghost use Rattle.fleet_core.specs.Judgement.{judgement_of};
-ghost use Rattle.fleet_core.specs.Step.{heard_of, tick_of};
+ghost use Rattle.fleet_core.specs.Step.{heard_of};
 
 use fleet_base::{Fleet, Memory, Report, Visit};
 use std::alloc::Global;
@@ -15,10 +15,23 @@ pub fn heard(alloc: Global, fleet: &Fleet, report: &Report) -> Result<Fleet, Mem
     ensures { IfOk result (λ other. other ≡ heard_of fleet.now report.now) }
 {
     let mut other = fleet.copy(alloc)?;
+    hear(&mut other, report);
+    Ok(other)
+}
+
+/// Applies an accepted report to the fleet.
+pub(crate) fn hear(fleet: &mut Fleet, report: &Report)
+    requires accepted { judgement_of fleet.old report.now ≡ Accept }
+    requires count { fleet.old.count < 2 ^ 62 }
+    ensures { fleet.new ≡ heard_of fleet.old report.now }
+{
+    let count = fleet.count() + 1;
+    // The number of robots has 32 bits, and so has that of a robot that is there.
+    let _robots = fleet.robots();
     match *report {
         Report::Arrive { robot, tick, .. } => {
-            other.push_arrival(robot as u32, tick);
-            other.set_now(tick);
+            fleet.push_arrival(robot as u32, tick);
+            fleet.set_now(tick);
         }
         Report::Delay {
             robot,
@@ -31,10 +44,9 @@ pub fn heard(alloc: Global, fleet: &Fleet, report: &Report) -> Result<Fleet, Mem
             let _last = fleet.last(robot);
             let index = index as u32;
             let visit = Visit { robot, index };
-            other.set_delay(visit, extra);
-            other.set_now(tick);
+            fleet.set_delay(visit, extra);
+            fleet.set_now(tick);
         }
     }
-    other.set_count(fleet.count() + 1);
-    Ok(other)
+    fleet.set_count(count);
 }

@@ -1,9 +1,19 @@
-//! What a report does to a fleet: its judgement, and the step that an accepted one makes.
+//! What a report does to a fleet: its judgement, the entry of an accepted one, and the step that the entry makes.
 #![tactic(auto)]
 
+mod applying;
+mod entry;
+mod first;
 mod hearing;
 mod judging;
 pub mod laws;
+mod opening;
+mod preparing;
 
+pub use applying::apply;
+pub use entry::{ChoiceWhy, Entry, PrepareError};
+pub use first::first_state;
 pub use hearing::heard;
 pub use judging::{Judged, judge};
+pub use opening::is_open;
+pub use preparing::prepare;
