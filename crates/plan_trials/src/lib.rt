@@ -10,6 +10,8 @@ mod reports;
 #[cfg(test)]
 mod slow;
 #[cfg(test)]
+mod steps;
+#[cfg(test)]
 mod tests;
 #[cfg(test)]
 mod walks;

@@ -1,46 +1,23 @@
 // Reports of the robots of the crossing: how they are judged, and what they change.
-use crate::reading::sound_plan;
-use fleet_base::{Fleet, Report, SoundPlan, Visit, Why};
+use crate::steps::first;
+use fleet_base::{Fleet, Report, Visit, Why};
 use fleet_core::{Judged, heard, judge};
 use plan_graph::PlanGraph;
 use std::alloc::Global;
 use std::test::Fail;
-use switch_pairs::pairs;
 
-const MAP: &[u8] = b"type octile\nheight 3\nwidth 5\nmap\n@@.@@\n.....\n@@.@@\n";
+pub const MAP: &[u8] = b"type octile\nheight 3\nwidth 5\nmap\n@@.@@\n.....\n@@.@@\n";
 
-const PLAN: &[u8] =
+pub const PLAN: &[u8] =
     b"Agent 0: (1,0)->(1,1)->(1,2)->(1,3)->(1,4)\nAgent 1: (0,2)->(0,2)->(0,2)->(1,2)->(2,2)\n";
 
 const LATEST: u64 = 1_000_000_000_000;
 
-/// The graph of a plan, and the state in which its robots start.
-fn start_of(alloc: Global, plan: &SoundPlan) -> Result<(PlanGraph, Fleet), Fail> {
-    let table = pairs(alloc, plan)?;
-    let graph = PlanGraph::new(alloc, plan, &table)?;
-    let fleet = Fleet::start(alloc, plan, &table)?;
-    Ok((graph, fleet))
-}
-
-/// The crossing after its first release, of visit 1 to robot 0.
-fn crossing(alloc: Global) -> Result<(PlanGraph, Fleet), Fail> {
-    let plan = sound_plan(alloc, MAP, PLAN)?;
-    let (graph, mut fleet) = start_of(alloc, &plan)?;
-    release(&mut fleet, 0);
-    Ok((graph, fleet))
-}
-
-fn release(fleet: &mut Fleet, robot: u32) {
-    if robot < fleet.robots() && fleet.released(robot) < fleet.last(robot) {
-        fleet.push_release(robot, 0);
-    }
-}
-
-fn arrive(robot: u64, index: u64, tick: u64) -> Report {
+pub fn arrive(robot: u64, index: u64, tick: u64) -> Report {
     Report::Arrive { robot, index, tick }
 }
 
-fn delay(robot: u64, index: u64, extra: u64, tick: u64) -> Report {
+pub fn delay(robot: u64, index: u64, extra: u64, tick: u64) -> Report {
     Report::Delay {
         robot,
         index,
@@ -51,7 +28,7 @@ fn delay(robot: u64, index: u64, extra: u64, tick: u64) -> Report {
 
 /// How a report is judged there.
 fn judged(alloc: Global, report: &Report) -> Result<Judged, Fail> {
-    let (graph, fleet) = crossing(alloc)?;
+    let (graph, fleet) = first(alloc, MAP, PLAN)?;
     Ok(judge(&graph, &fleet, report))
 }
 
@@ -86,7 +63,7 @@ fn after(alloc: Global, graph: &PlanGraph, fleet: &Fleet, report: &Report) -> Re
 
 /// Count and moment after a report, and the tick of robot 0's arrival at visit 1.
 fn changed(alloc: Global, report: &Report) -> Result<(u64, u64, Option<u64>), Fail> {
-    let (graph, fleet) = crossing(alloc)?;
+    let (graph, fleet) = first(alloc, MAP, PLAN)?;
     let fleet = after(alloc, &graph, &fleet, report)?;
     let visit = Visit { robot: 0, index: 1 };
     Ok((fleet.count(), fleet.now(), fleet.arrival_tick(visit)))
