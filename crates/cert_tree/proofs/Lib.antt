@@ -1,0 +1,11 @@
+pub mod Positions
+pub mod FieldLaws
+pub mod PairFields
+pub mod LineEnds
+pub mod LineKinds
+pub mod Appending
+pub mod OtherLines
+pub mod SameNodes
+pub mod WrittenText
+pub mod LastLine
+pub mod FaultLines

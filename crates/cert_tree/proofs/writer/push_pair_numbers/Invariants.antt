@@ -1,0 +1,7 @@
+-- The numbers so far are appended.
+use Rattle.std.proofs.Common.{◌≡◌, ◌++◌, take}
+use Rattle.cert_tree.specs.CertText.{pair_numbers}
+use Rattle.cert_tree.proofs.writer.push_pair_numbers.Given as goal
+
+abbrev pub invariant-loop-pair : goal.invariant-loop-pair
+invariant-loop-pair l = l.out ≡ l.fn.out ++ pair_numbers (take l.pair-index l.pairs)

@@ -1,0 +1,9 @@
+use Rattle.std.proofs.lemmas.Result.{err_from_is_err_and}
+use Rattle.fleet_base.specs.Bytes.{field}
+use Rattle.cert_tree.proofs.Appending.{front_first}
+use Rattle.cert_tree.proofs.writer.push_words.Goals as goal
+
+pub returns-in_err-push_bytes-clause-err : goal.returns-in_err-push_bytes-clause-err
+returns-in_err-push_bytes-clause-err c =
+    let p = err_from_is_err_and c.from_residual.result c.from_residual.ensures.1 in
+    rw p.1 (front_first c.args.out.now c.push_bytes.new.out c.args.words.now (field c.args.number) c.in_err-push_bytes.ensures.err)

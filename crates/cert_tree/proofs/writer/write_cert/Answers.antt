@@ -1,0 +1,16 @@
+use Rattle.std.proofs.Common.{◌++◌, ◌∙◌, ap, subst, take, get_or, length, arith}
+use Rattle.std.proofs.lemmas.Result.{err_from_is_err_and}
+use Rattle.cert_tree.specs.declared.node.Node.{Node}
+use Rattle.cert_tree.specs.CertText.{node_lines, text_of_lines}
+use Rattle.cert_tree.specs.Writing.{AppendsFront}
+use Rattle.cert_tree.proofs.Appending.{pieces_left, text_by_nodes}
+use Rattle.cert_tree.proofs.writer.write_cert.Goals as goal
+
+pub returns-in_err-push_node-clause-err : goal.returns-in_err-push_node-clause-err
+returns-in_err-push_node-clause-err c =
+    let p = err_from_is_err_and c.from_residual.result c.from_residual.ensures.1 in
+    let nodes = c.args.cert.now in
+    let i = c.loop-node.node-index in
+    let items = c.as_slice-node-items.ensures in
+    rw (p.1, text_by_nodes nodes)
+    (pieces_left (λ (n : Node). text_of_lines (node_lines n)) c.args.out.now c.loop-node.out c.push_node.new.out nodes i c.node-item.result (omega (arith, ap length items)) (c.loop-node.invariant ∙ ap (λ l. c.args.out.now ++ l) (text_by_nodes (take i nodes))) (subst (λ n. AppendsFront c.loop-node.out c.push_node.new.out (text_of_lines (node_lines n))) (c.node-item.is ∙ ap (λ l. get_or l i c.node-item.result) items) c.in_err-push_node.ensures.err))

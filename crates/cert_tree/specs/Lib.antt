@@ -1,0 +1,4 @@
+pub mod CertText
+pub mod CertFaults
+pub mod Reading
+pub mod Writing
