@@ -1,0 +1,14 @@
+pub mod Edges
+pub mod Latest
+pub mod Own
+pub mod Numbering
+pub mod Writing
+pub mod RowCounts
+pub mod EndSums
+pub mod Zeros
+pub mod Ascending
+pub mod Closing
+pub mod Tightness
+pub mod Walking
+pub mod Finding
+pub mod Costs

@@ -1,0 +1,7 @@
+pub mod Ticks
+pub mod Paths
+pub mod Closed
+pub mod Kept
+pub mod Earliest
+pub mod Tight
+pub mod Steps
