@@ -1,0 +1,14 @@
+pub mod Advances
+pub mod Append
+pub mod Beside
+pub mod Bytes
+pub mod Choosing
+pub mod Clearing
+pub mod Create
+pub mod Finishing
+pub mod Frames
+pub mod OneJournal
+pub mod Openings
+pub mod Pieces
+pub mod Refusals
+pub mod Sorts

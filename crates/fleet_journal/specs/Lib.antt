@@ -1,0 +1,6 @@
+pub mod Answers
+pub mod Clearing
+pub mod Journal
+pub mod Reading
+pub mod Sides
+pub mod Standing
