@@ -1,0 +1,149 @@
+-- The texts of lines, and lines cut short.
+use Rattle.std.proofs.Common.{ℕ, ◌≡◌, ◌≢◌, ◌+◌, ◌-◌, ◌<◌, ◌≤◌, Bool, true, false, List, [], ◌∷◌, ◌++◌, map, length, take, get_or, cond, eqb, refl, sym, ap, ◌∙◌, subst, arith, append_assoc, append-nil}
+use Rattle.std.specs.Prelude.{flat_map, All, Contains, slice_index_or}
+use Rattle.std.specs.List.{range_with_len}
+use Rattle.std.proofs.lemmas.List.{map-append, take_all, take_more, length-take, take-append-le, length-append}
+use Rattle.std.proofs.lemmas.List.Concat.{flat_map-append}
+use Rattle.std.proofs.lemmas.List.FromFn.{map-range_with_len_more}
+use Rattle.std.proofs.lemmas.List.Elements.{All-contains_itself}
+use Rattle.std.proofs.lemmas.Bool.{eqb-true}
+use Rattle.fleet_base.specs.declared.geometry.PlannedVisit.{PlannedVisit}
+use Rattle.fleet_base.specs.declared.geometry.Visit.{Visit}
+use Rattle.fleet_base.specs.Lists.{range}
+use Rattle.fleet_base.specs.Plan.{AreRoutes, IsOnRoute}
+use Rattle.fleet_base.specs.Order.{graph_of}
+use Rattle.fleet_base.specs.State.{FleetState, arrived_count, released_count}
+use Rattle.fleet_base.specs.Release.{new_releases}
+use Rattle.fleet_base.specs.Rules.{IsFleetState}
+use Rattle.fleet_base.specs.Bytes.{without_cr}
+use Rattle.fleet_base.specs.World.{release_line}
+use Rattle.fleet_base.proofs.GraphLaws.{length-map, last_is, route_is_some}
+use Rattle.fleet_base.proofs.Members.{from_flat_map, from_range}
+use Rattle.fleet_base.proofs.AllVisits.{from_map}
+use Rattle.fleet_serve.specs.Lines.{text_of, release_lines, pending_of}
+use Rattle.fleet_serve.specs.Reading.{kept_of}
+
+pub text-append : (a b : List (List ℕ)) → text_of (a ++ b) ≡ text_of a ++ text_of b
+text-append a b = flat_map-append (λ (line : List ℕ). line ++ 10 ∷ []) a b
+
+-- the text of releases, and of some more
+pub releases-append : (routes : List (List PlannedVisit)) (a b : List Visit) → text_of (release_lines routes (a ++ b)) ≡ text_of (release_lines routes a) ++ text_of (release_lines routes b)
+releases-append routes a b = ap text_of (map-append (release_line routes) a b) ∙ text-append (release_lines routes a) (release_lines routes b)
+
+pub releases_more : (routes : List (List PlannedVisit)) (vs : List Visit) (i : ℕ) (d : Visit) → i < length vs → text_of (release_lines routes (take (i + 1) vs)) ≡ text_of (release_lines routes (take i vs)) ++ text_of (release_lines routes (get_or vs i d ∷ []))
+releases_more routes vs i d h = ap (λ (l : List Visit). text_of (release_lines routes l)) (take_more vs i d h) ∙ releases-append routes (take i vs) (get_or vs i d ∷ [])
+
+-- a text and one piece more behind what was written
+pub written_more : (start now new more all next : List ℕ) → now ≡ start ++ all → new ≡ now ++ more → next ≡ all ++ more → new ≡ start ++ next
+written_more start now new more all next e f g = f ∙ ap (λ (t : List ℕ). t ++ more) e ∙ append_assoc start all more ∙ ap (λ (t : List ℕ). start ++ t) (sym g)
+
+-- ---- the releases of a robot that have not arrived
+
+abbrev visit : ℕ → ℕ → Visit
+visit i k = record { robot = i; index = k }
+
+-- those up to an index
+abbrev pub pending_to : FleetState → ℕ → ℕ → List Visit
+pending_to x i to = map (visit i) (range (arrived_count x i) to)
+
+pub pending_more : (x : FleetState) (i k : ℕ) → arrived_count x i ≤ k → pending_to x i (k + 1) ≡ pending_to x i k ++ visit i k ∷ []
+pending_more x i k h =
+    let e : (k + 1) - arrived_count x i ≡ (k - arrived_count x i) + 1 = omega arith in
+    ap (λ (n : ℕ). map (visit i) (range_with_len (arrived_count x i) n)) e ∙ map-range_with_len_more (visit i) (arrived_count x i) (k - arrived_count x i) k (omega arith)
+
+pub pending_none : (x : FleetState) (i k : ℕ) → k ≤ arrived_count x i → pending_to x i k ≡ []
+pending_none x i k h =
+    let e : k - arrived_count x i ≡ 0 = omega arith in
+    ap (λ (n : ℕ). map (visit i) (range_with_len (arrived_count x i) n)) e
+
+-- ---- the releases of all robots that have not arrived
+
+map_same : (xs : List ℕ) → map (λ (k : ℕ). k) xs ≡ xs
+map_same [] = refl
+map_same (y ∷ ys) = ap (λ (l : List ℕ). y ∷ l) (map_same ys)
+
+range_more : (n : ℕ) → range 0 (n + 1) ≡ range 0 n ++ n ∷ []
+range_more n =
+    let e : (n + 1) - 0 ≡ n + 1 = omega arith in
+    let f : n ≡ n - 0 = omega arith in
+    ap (range_with_len 0) e
+    ∙ sym (map_same (range_with_len 0 (n + 1)))
+    ∙ map-range_with_len_more (λ (k : ℕ). k) 0 n n (omega arith)
+    ∙ ap (λ (l : List ℕ). l ++ n ∷ []) (map_same (range_with_len 0 n) ∙ ap (range_with_len 0) f)
+
+pub robots_more : (x : FleetState) (n : ℕ) → flat_map (pending_of x) (range 0 (n + 1)) ≡ flat_map (pending_of x) (range 0 n) ++ pending_of x n
+robots_more x n =
+    ap (flat_map (pending_of x)) (range_more n)
+    ∙ flat_map-append (pending_of x) (range 0 n) (n ∷ [])
+    ∙ ap (λ (l : List Visit). flat_map (pending_of x) (range 0 n) ++ l) (append-nil (pending_of x n))
+
+-- a greeting's text with the releases of one robot more
+pub greeting_more : (routes : List (List PlannedVisit)) (x : FleetState) (first : List ℕ) (n : ℕ)
+    → text_of (first ∷ release_lines routes (flat_map (pending_of x) (range 0 n))) ++ text_of (release_lines routes (pending_of x n)) ≡ text_of (first ∷ release_lines routes (flat_map (pending_of x) (range 0 (n + 1))))
+greeting_more routes x first n =
+    append_assoc (first ++ 10 ∷ []) (text_of (release_lines routes (flat_map (pending_of x) (range 0 n)))) (text_of (release_lines routes (pending_of x n)))
+    ∙ ap (λ (t : List ℕ). (first ++ 10 ∷ []) ++ t)
+    (sym (releases-append routes (flat_map (pending_of x) (range 0 n)) (pending_of x n)) ∙ ap (λ (l : List Visit). text_of (release_lines routes l)) (sym (robots_more x n)))
+
+-- ---- visits on their routes
+
+pub released_on_route : (routes : List (List PlannedVisit)) (x : FleetState) (i k : ℕ) → AreRoutes routes → IsFleetState (graph_of routes) x → i < length routes → k < released_count x i → IsOnRoute routes (visit i k)
+released_on_route routes x i k r s h lt =
+    let there : i < length (graph_of routes).lasts = omega (arith, h, length-map (λ (route : List PlannedVisit). length route - 1) routes) in
+    omega (arith, lt, (s.releases.last i there).within, last_is routes i h, route_is_some routes r i h, s.releases.started i there)
+
+-- what a step releases is on the routes
+pub new_on_route : (routes : List (List PlannedVisit)) (x x' : FleetState) → AreRoutes routes → IsFleetState (graph_of routes) x' → All (λ v. IsOnRoute routes v) (new_releases x x')
+new_on_route routes x x' r s = λ k d lt. listed (slice_index_or (new_releases x x') k d) (All-contains_itself (new_releases x x') k d lt)
+  where
+    listed : (v : Visit) → Contains (new_releases x x') v → IsOnRoute routes v
+    listed v h =
+        let a = from_flat_map (λ (i : ℕ). map (visit i) (range (released_count x i) (released_count x' i))) (range 0 (length x'.releases)) v h in
+        let b = from_map (visit a.0) (range (released_count x a.0) (released_count x' a.0)) v a.2 in
+        let robots : length x'.releases ≡ length routes = s.fleet.releases ∙ length-map (λ (route : List PlannedVisit). length route - 1) routes in
+        let i : a.0 < length routes = omega (arith, (from_range 0 (length x'.releases) a.0 a.1).1, robots) in
+        subst (λ (w : Visit). IsOnRoute routes w) b.2 (released_on_route routes x' a.0 b.0 r s i (from_range (released_count x a.0) (released_count x' a.0) b.0 b.1).1)
+
+-- ---- lines cut short
+
+pub kept_more : (line : List ℕ) (byte : ℕ) → length (kept_of line) < 258 → kept_of line ++ byte ∷ [] ≡ kept_of (line ++ byte ∷ [])
+kept_more line byte h =
+    let short : length line < 258 = omega (arith, h, length-take 258 line) in
+    ap (λ (l : List ℕ). l ++ byte ∷ []) (take_all 258 line (omega (arith, short))) ∙ sym (take_all 258 (line ++ byte ∷ []) (omega (arith, short, length-append line (byte ∷ []))))
+
+pub kept_full : (line : List ℕ) (byte : ℕ) → 258 ≤ length (kept_of line) → kept_of line ≡ kept_of (line ++ byte ∷ [])
+kept_full line byte h = sym (take-append-le 258 line (byte ∷ []) (omega (arith, h, length-take 258 line)))
+
+-- ---- the CR at the end of a line
+
+pub without_cr-push : (front : List ℕ) → without_cr (front ++ 13 ∷ []) ≡ front
+without_cr-push [] = refl
+without_cr-push (c ∷ []) = refl
+without_cr-push (c ∷ d ∷ cs) = ap (λ rest. c ∷ rest) (without_cr-push (d ∷ cs))
+
+pub without_cr-none : (line : List ℕ) → ((front : List ℕ) → line ≢ front ++ 13 ∷ []) → without_cr line ≡ line
+without_cr-none [] none = refl
+without_cr-none (c ∷ []) none = by_cr (eqb c 13) refl
+  where
+    by_cr : (b : Bool) → eqb c 13 ≡ b → without_cr (c ∷ []) ≡ c ∷ []
+    by_cr true e = absurd (none [] (ap (λ x. x ∷ []) (eqb-true c 13 e)))
+    by_cr false e = rw e refl
+without_cr-none (c ∷ d ∷ cs) none = ap (λ rest. c ∷ rest) (without_cr-none (d ∷ cs) (λ front e. none (c ∷ front) (ap (λ rest. c ∷ rest) e)))
+
+pub without_cr-shorter : (line : List ℕ) → length (without_cr line) ≤ length line
+without_cr-shorter [] = omega arith
+without_cr-shorter (c ∷ []) = by_cr (eqb c 13)
+  where
+    by_cr : (b : Bool) → length (cond b [] (c ∷ [])) ≤ 1
+    by_cr true = omega arith
+    by_cr false = omega arith
+without_cr-shorter (c ∷ d ∷ cs) = omega (arith, without_cr-shorter (d ∷ cs))
+
+pub without_cr-length : (line : List ℕ) → length line ≤ length (without_cr line) + 1
+without_cr-length [] = omega arith
+without_cr-length (c ∷ []) = by_cr (eqb c 13)
+  where
+    by_cr : (b : Bool) → 1 ≤ length (cond b [] (c ∷ [])) + 1
+    by_cr true = omega arith
+    by_cr false = omega arith
+without_cr-length (c ∷ d ∷ cs) = omega (arith, without_cr-length (d ∷ cs))

@@ -1,0 +1,34 @@
+-- Reading lines from a stream, piece by piece.
+use Rattle.std.specs.Prelude.{ℕ, ◌≡◌, List, [], ◌∷◌, ◌++◌, take, Result, Ok, Err}
+use Rattle.fleet_base.specs.Bytes.{pieces_of}
+use Rattle.fleet_serve.specs.declared.outcome.StepFault.{StepFault}
+use Rattle.fleet_serve.specs.declared.outcome.StepFault.TheVariants as step_fault
+use Rattle.fleet_serve.specs.Told.{Told, Sends, SendsPart}
+use Rattle.fleet_serve.specs.Lines.{text_of}
+use Rattle.fleet_serve.specs.Turns.{TurnMade, answers_of}
+use Rattle.fleet_serve.specs.Serving.{Course, Serves, Begins}
+
+-- the last of the pieces
+abbrev pub last_piece : List (List ℕ) → List ℕ
+last_piece [] = []
+last_piece (piece ∷ []) = piece
+last_piece (piece ∷ next ∷ pieces) = last_piece (next ∷ pieces)
+
+-- what follows the last LF of a text
+abbrev pub unfinished : List ℕ → List ℕ
+unfinished text = last_piece (pieces_of text)
+
+-- no LF is in the line yet
+abbrev pub IsUnfinished : List ℕ → Type 0
+IsUnfinished line = pieces_of line ≡ line ∷ []
+
+-- the part of a line that is kept while it is read
+abbrev pub kept_of : List ℕ → List ℕ
+kept_of line = take 258 line
+
+-- What it leaves to read some bytes behind a line that was begun: the turns of the whole lines are made. Where a send or memory
+-- fails, those of the first lines are.
+abbrev pub Hears : Course → List ℕ → List ℕ → List ℕ → Told → Result (Unit {0}) StepFault → Type 0
+Hears s line bytes kept sent (Ok done) = Serves s (line ++ bytes) sent × (kept ≡ kept_of (unfinished (line ++ bytes)))
+Hears s line bytes kept sent (Err step_fault.Station) = (turns : List TurnMade) × (torn : TurnMade) × Begins s (line ++ bytes) (turns ++ torn ∷ []) × SendsPart sent (text_of (answers_of turns)) (text_of torn.answer)
+Hears s line bytes kept sent (Err step_fault.Memory) = (turns : List TurnMade) × Begins s (line ++ bytes) turns × Sends sent (text_of (answers_of turns))

@@ -1,0 +1,146 @@
+// A session over all report lines.
+ghost use Rattle.std.specs.Prelude.{◌≡◌, ◌≤◌, ◌∷◌, [], ℕ, List, length, OnOk, IsErrOf};
+ghost use Rattle.fleet_base.specs.Order.{graph_of};
+ghost use Rattle.fleet_base.specs.Rules.{IsFleetState};
+ghost use Rattle.station_api.specs.Causes.{Counted, IsToBlame};
+ghost use Rattle.station_api.specs.Disk.{IsSending};
+ghost use Rattle.fleet_serve.specs.Told.{Told, Takes, IsAtEnd};
+ghost use Rattle.fleet_serve.specs.Serving.{ServeLeaves};
+ghost use Rattle.fleet_serve.specs.Reading.{IsUnfinished, kept_of, Hears};
+
+use crate::kit::Kit;
+use crate::lines::{push_kept, trimmed};
+use crate::outcome::{ServeFault, Settings, StepFault};
+use crate::stepping::step;
+use fleet_base::{Fleet, SoundPlan, Text};
+use plan_graph::PlanGraph;
+use station_api::{Source, Station};
+use std::alloc::Global;
+
+/// How many bytes are read at a time at most.
+const READ_SIZE: u64 = 512;
+
+/// Answers report lines until the input ends. It reads at most 512 bytes at a time, and only when the answer of every whole
+/// line taken has been sent. A rest without a line end is dropped.
+pub fn serve<S: Source, T: Station>(
+    alloc: Global,
+    graph: &PlanGraph,
+    plan: &SoundPlan,
+    fleet: &mut Fleet,
+    kit: &mut Kit,
+    settings: &Settings,
+    source: &mut S,
+    station: &mut T,
+) -> Result<(), ServeFault>
+    requires graph { graph.now ≡ graph_of plan.now }
+    requires state { IsFleetState graph.now fleet.old }
+    ensures served { (taken : List ℕ) × Takes (record { tells = S.tells; before = S.left source.old; now = S.left source.new }) taken × ServeLeaves (record { routes = plan.now; from = fleet.old; to = fleet.new }) settings.now.input_limit taken (S.last source.new) (record { tells = S.tells; before = S.left source.old; now = S.left source.new }) (record { tells = T.tells; before = (T.clock station.old).seen.sent; now = (T.clock station.new).seen.sent }) result }
+    ensures rules { IsFleetState graph.now fleet.new }
+    ensures sides { T.tells → IsSending (T.clock station.old) (T.clock station.new) }
+    ensures source_counted { Counted (S.counts source.old) (S.counts source.new) }
+    ensures source_cause { IsErrOf result ServeFault.Read → IsToBlame (S.counts source.old) (S.counts source.new) }
+    ensures station_counted { Counted (T.counts station.old) (T.counts station.new) }
+    ensures station_cause { IsErrOf result ServeFault.Station → IsToBlame (T.counts station.old) (T.counts station.new) }
+{
+    let mut kept = Text::new(alloc);
+    let mut room = [0; READ_SIZE as usize];
+    let mut left = settings.input_limit;
+    while left > 0 {
+        let size = left.min(READ_SIZE) as usize;
+        match source.read(&mut room[..size]) {
+            Ok(0) => return Ok(()),
+            Ok(count) => {
+                let bytes = &room[..count];
+                match hear_all(
+                    alloc, graph, plan, fleet, kit, settings, &mut kept, bytes, station,
+                ) {
+                    Ok(()) => left -= count as u64,
+                    Err(StepFault::Station) => return Err(ServeFault::Station),
+                    Err(StepFault::Memory) => return Err(ServeFault::Memory),
+                }
+            }
+            Err(_) => return Err(ServeFault::Read),
+        }
+    }
+    end_at_limit(source)
+}
+
+/// Whether the input ends where no more of it may be taken.
+fn end_at_limit<S: Source>(source: &mut S) -> Result<(), ServeFault>
+    ensures ok { OnOk result (Takes (record { tells = S.tells; before = S.left source.old; now = S.left source.new }) [] × IsAtEnd (record { tells = S.tells; before = S.left source.old; now = S.left source.new })) }
+    ensures read { IsErrOf result ServeFault.Read → Takes (record { tells = S.tells; before = S.left source.old; now = S.left source.new }) [] × IsToBlame (S.counts source.old) (S.counts source.new) }
+    ensures limit { IsErrOf result ServeFault.Limit → (byte : ℕ) × Takes (record { tells = S.tells; before = S.left source.old; now = S.left source.new }) (byte ∷ []) }
+    ensures no_other { (IsErrOf result ServeFault.Station → ⊥) × (IsErrOf result ServeFault.Memory → ⊥) }
+    ensures counted { Counted (S.counts source.old) (S.counts source.new) }
+{
+    let mut room = [0; 1];
+    match source.read(&mut room) {
+        Ok(0) => Ok(()),
+        Ok(_) => Err(ServeFault::Limit),
+        Err(_) => Err(ServeFault::Read),
+    }
+}
+
+/// Reads bytes behind a line that was begun, and answers each line that ends in them.
+fn hear_all<T: Station>(
+    alloc: Global,
+    graph: &PlanGraph,
+    plan: &SoundPlan,
+    fleet: &mut Fleet,
+    kit: &mut Kit,
+    settings: &Settings,
+    kept: &mut Text,
+    bytes: &[u8],
+    station: &mut T,
+) -> Result<(), StepFault>
+    requires graph { graph.now ≡ graph_of plan.now }
+    requires state { IsFleetState graph.now fleet.old }
+    requires short { length kept.old ≤ 258 }
+    ensures heard { (line : List ℕ) → IsUnfinished line → kept.old ≡ kept_of line → Hears (record { routes = plan.now; from = fleet.old; to = fleet.new }) line bytes.now kept.new (record { tells = T.tells; before = (T.clock station.old).seen.sent; now = (T.clock station.new).seen.sent }) result }
+    ensures short { length kept.new ≤ 258 }
+    ensures rules { IsFleetState graph.now fleet.new }
+    ensures sides { T.tells → IsSending (T.clock station.old) (T.clock station.new) }
+    ensures counted { Counted (T.counts station.old) (T.counts station.new) }
+    ensures cause { IsErrOf result StepFault.Station → IsToBlame (T.counts station.old) (T.counts station.new) }
+{
+    for byte in bytes {
+        hear_byte(
+            alloc, graph, plan, fleet, kit, settings, kept, *byte, station,
+        )?;
+    }
+    Ok(())
+}
+
+/// Reads one byte behind a line that was begun, and answers the line if it ends there.
+fn hear_byte<T: Station>(
+    alloc: Global,
+    graph: &PlanGraph,
+    plan: &SoundPlan,
+    fleet: &mut Fleet,
+    kit: &mut Kit,
+    settings: &Settings,
+    kept: &mut Text,
+    byte: u8,
+    station: &mut T,
+) -> Result<(), StepFault>
+    requires graph { graph.now ≡ graph_of plan.now }
+    requires state { IsFleetState graph.now fleet.old }
+    requires short { length kept.old ≤ 258 }
+    ensures heard { (line : List ℕ) → IsUnfinished line → kept.old ≡ kept_of line → Hears (record { routes = plan.now; from = fleet.old; to = fleet.new }) line (byte ∷ []) kept.new (record { tells = T.tells; before = (T.clock station.old).seen.sent; now = (T.clock station.new).seen.sent }) result }
+    ensures short { length kept.new ≤ 258 }
+    ensures rules { IsFleetState graph.now fleet.new }
+    ensures sides { T.tells → IsSending (T.clock station.old) (T.clock station.new) }
+    ensures counted { Counted (T.counts station.old) (T.counts station.new) }
+    ensures cause { IsErrOf result StepFault.Station → IsToBlame (T.counts station.old) (T.counts station.new) }
+{
+    if byte != b'\n' {
+        return match push_kept(kept, byte) {
+            Ok(()) => Ok(()),
+            Err(_) => Err(StepFault::Memory),
+        };
+    }
+    let line = trimmed(kept.as_slice());
+    step(alloc, graph, plan, fleet, kit, settings, line, station)?;
+    *kept = Text::new(alloc);
+    Ok(())
+}
