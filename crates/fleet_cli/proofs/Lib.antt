@@ -1,3 +1,4 @@
 pub mod Pieces
 pub mod Reasons
 pub mod Exclusion
+pub mod Running

@@ -1,8 +1,7 @@
 -- Lists that are put together piece by piece.
-use Rattle.std.proofs.Common.{ℕ, ◌≡◌, ◌+◌, ◌-◌, ◌<◌, ◌≤◌, List, [], ◌∷◌, ◌++◌, sym, ap, ◌∙◌, arith, length, get_or, take, drop, map}
+use Rattle.std.proofs.Common.{ℕ, ◌≡◌, ◌+◌, ◌<◌, ◌≤◌, List, [], ◌∷◌, ◌++◌, sym, ap, ◌∙◌, arith, length, get_or, take, map}
 use Rattle.std.specs.Prelude.{sum_by, codes}
-use Rattle.std.proofs.lemmas.List.{take_more, append_assoc, append-nil, length-drop}
-use Rattle.std.proofs.Math.Seq.{take-add, take-length}
+use Rattle.std.proofs.lemmas.List.{take_more, append_assoc, append-nil}
 use Rattle.std.proofs.lemmas.List.Sums.{sum_by_more_le, sum_by-append}
 use Rattle.fleet_base.specs.declared.geometry.PlannedVisit.{PlannedVisit}
 use Rattle.fleet_base.specs.Lists.{row_of}
@@ -43,14 +42,6 @@ three_words f (x ∷ []) a b c n ea eb ec = absurd (omega (arith, n))
 three_words f (x ∷ y ∷ []) a b c n ea eb ec = absurd (omega (arith, n))
 three_words f (x ∷ y ∷ z ∷ []) a b c n ea eb ec = λ i. f (sym ea i) ∷ f (sym eb i) ∷ f (sym ec i) ∷ []
 three_words f (x ∷ y ∷ z ∷ w ∷ ws) a b c n ea eb ec = absurd (omega (arith, n))
-
--- what is lent from a place on is all that follows
-pub rest_lent : (xs : List ℕ) (s : ℕ) → take (length xs - s) (drop s xs) ≡ drop s xs
-rest_lent xs s = ap (λ (k : ℕ). take k (drop s xs)) (sym (length-drop s xs)) ∙ take-length (drop s xs)
-
--- a front, and a front of what follows it
-pub front_of_rest : (xs : List ℕ) (s n : ℕ) → take s xs ++ take n (take (length xs - s) (drop s xs)) ≡ take (s + n) xs
-front_of_rest xs s n = ap (λ (t : List ℕ). take s xs ++ take n t) (rest_lent xs s) ∙ sym (take-add s n xs)
 
 -- two pieces, and then numbers
 pub words_then_fields : (out once new front word : List ℕ) (numbers : List ℕ) → once ≡ out ++ (front ++ word) → new ≡ once ++ fields numbers → new ≡ out ++ ((front ++ word) ++ fields numbers)

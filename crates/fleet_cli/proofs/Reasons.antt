@@ -1,9 +1,8 @@
 -- What the steps of a check say of the whole: counts go on, and each refusal has its cause.
-use Rattle.std.proofs.Common.{ℕ, suc, zero, ◌≡◌, ◌⊎◌, ◌+◌, ◌<◌, ◌≤◌, List, [], ◌∷◌, sym, ◌∙◌, inl, inr, arith, length, get_or, Option, IsTrue}
+use Rattle.std.proofs.Common.{ℕ, suc, zero, ◌≡◌, ◌+◌, ◌<◌, ◌≤◌, List, [], ◌∷◌, sym, ◌∙◌, arith, length, get_or, Option}
 use Rattle.fleet_base.specs.declared.geometry.Cell.{Cell}
 use Rattle.fleet_base.specs.declared.geometry.PlannedVisit.{PlannedVisit}
 use Rattle.fleet_base.specs.Grid.{OccupancyGrid}
-use Rattle.station_api.specs.Causes.{Counts, Counted, Rose}
 use Rattle.plan_text.specs.PlanText.{IsPlanText, AreRobotLines, robot_lines}
 use Rattle.plan_check.specs.Faults.{HasRobots}
 use Rattle.fleet_cli.specs.declared.fault.Paper.TheVariants as paper
@@ -12,26 +11,6 @@ use Rattle.fleet_cli.specs.declared.fault.Refusal.{Refusal}
 use Rattle.fleet_cli.specs.declared.fault.Refusal.TheVariants.{Fault, Memory}
 use Rattle.fleet_cli.specs.Papers.{Files, IsPaper, IsLong, HasMap, HasPlan, HasRoutes}
 use Rattle.fleet_cli.specs.Fetching.{IsUnfetched, IsMapRefusal, IsPlanRefusal, IsUnsoundRefusal, IsPairsRefusal, HasReason}
-
--- a count that rose later rose in the whole
-pub rose_later : (a b c : ℕ) → a ≤ b → Rose b c → Rose a c
-rose_later a b c le r = omega (arith, le, r)
-
-pub rose_before : (a b c : ℕ) → Rose a b → b ≤ c → Rose a c
-rose_before a b c r le = omega (arith, r, le)
-
-pub counted_on : (a b c : Counts) → Counted a b → Counted b c → Counted a c
-counted_on a b c x y = record {
-  later = omega (arith, x.later, y.later);
-  starved_later = omega (arith, x.starved_later, y.starved_later);
-  stays = λ t. y.stays (x.stays t);
-  starves = λ t. go t (x.starves t) (y.starves (x.stays t));
-}
-  where
-    go : IsTrue a.flawless → (b.faults ≡ a.faults) ⊎ Rose a.starved b.starved → (c.faults ≡ b.faults) ⊎ Rose b.starved c.starved → (c.faults ≡ a.faults) ⊎ Rose a.starved c.starved
-    go t (inl e) (inl f) = inl (f ∙ e)
-    go t (inl e) (inr r) = inr (rose_later a.starved b.starved c.starved x.starved_later r)
-    go t (inr r) q = inr (rose_before a.starved b.starved c.starved r y.starved_later)
 
 -- ---- the causes of the steps
 

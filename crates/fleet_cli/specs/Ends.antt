@@ -1,48 +1,54 @@
 -- How a call of the program ends, by its status, and what it has sent.
-use Rattle.std.specs.Prelude.{ℕ, ◌≡◌, List, [], ◌∷◌, ◌++◌, take}
+use Rattle.std.specs.Prelude.{ℕ, ◌⊎◌, List, [], ◌∷◌, ◌++◌}
+use Rattle.fleet_base.specs.declared.geometry.PlannedVisit.{PlannedVisit}
 use Rattle.fleet_base.specs.declared.status.Status.{Status}
 use Rattle.fleet_base.specs.declared.status.Status.TheVariants.{Done, Usage, Input, Journal, ReadFault, StationFault, Memory, Limit}
+use Rattle.fleet_serve.specs.Told.{Sends, SendsPart, Takes}
+use Rattle.fleet_cli.specs.declared.words.Command.{Command}
+use Rattle.fleet_cli.specs.declared.words.Command.TheVariants.{Check, Run}
 use Rattle.fleet_cli.specs.Papers.{Files}
-use Rattle.fleet_cli.specs.Due.{IsDue}
+use Rattle.fleet_cli.specs.Due.{IsAsked, IsDue}
+use Rattle.fleet_cli.specs.Runs.{Talk, RunEnds}
 
--- all that a call of the program is handed and leaves: its words, the files and whether the shelf failed, and what the station
--- tells that it had sent before and has sent then, and whether it failed
+-- all that a call of the program is handed and leaves: its words, the files and whether the shelf failed, and its talk
 pub record Call : Type 1 where
   pub words : List (List ℕ)
   pub files : Files
   pub shelf_failed : Type 0
-  pub tells : Type 0
-  pub sent : List ℕ
-  pub sent_after : List ℕ
-  pub station_failed : Type 0
+  pub talk : Talk
 
--- the call has sent this
-abbrev pub HasSent : Call → List ℕ → Type 0
-HasSent call bytes = call.tells → call.sent_after ≡ call.sent ++ bytes
+-- the line is the one that is due with this status
+abbrev pub IsLine : Call → Status → List ℕ → Type 0
+IsLine call end line = IsDue call.files call.shelf_failed call.words end line
 
--- the call has sent a front of this
-abbrev pub HasSentFront : Call → List ℕ → Type 0
-HasSentFront call bytes = call.tells → (n : ℕ) × (call.sent_after ≡ call.sent ++ take n bytes)
+-- the line that is due was sent whole
+abbrev pub SaysLine : Call → Status → Type 0
+SaysLine call end = (line : List ℕ) × IsLine call end line × Sends call.talk.sent (line ++ 10 ∷ [])
 
--- how a call ends with a status: after want of memory it has sent nothing; after a fault of the station, some front of the line
--- that is due; else the whole line
+-- How a call ends that has one line to say. After want of memory it has sent nothing; after a fault of the station, some front of
+-- the line that is due; else the whole line.
+abbrev pub LineEnds : Call → Status → Type 0
+LineEnds call Done = SaysLine call Done
+LineEnds call Usage = SaysLine call Usage
+LineEnds call Input = SaysLine call Input
+LineEnds call Journal = ⊥
+LineEnds call ReadFault = SaysLine call ReadFault
+LineEnds call StationFault = call.talk.station_failed × ((end : Status) × (line : List ℕ) × IsLine call end line × SendsPart call.talk.sent [] (line ++ 10 ∷ []))
+LineEnds call Memory = Sends call.talk.sent []
+LineEnds call Limit = ⊥
+
+-- how a call ends: it says one line and takes no input, or it is a run of a sound plan
 abbrev pub EndsAs : Call → Status → Type 0
-EndsAs call Done = (line : List ℕ) × IsDue call.files call.shelf_failed call.words Done line × HasSent call (line ++ 10 ∷ [])
-EndsAs call Usage = (line : List ℕ) × IsDue call.files call.shelf_failed call.words Usage line × HasSent call (line ++ 10 ∷ [])
-EndsAs call Input = (line : List ℕ) × IsDue call.files call.shelf_failed call.words Input line × HasSent call (line ++ 10 ∷ [])
-EndsAs call Journal = ⊥
-EndsAs call ReadFault = (line : List ℕ) × IsDue call.files call.shelf_failed call.words ReadFault line × HasSent call (line ++ 10 ∷ [])
-EndsAs call StationFault = call.station_failed × ((end : Status) × (line : List ℕ) × IsDue call.files call.shelf_failed call.words end line × HasSentFront call (line ++ 10 ∷ []))
-EndsAs call Memory = HasSent call []
-EndsAs call Limit = ⊥
+EndsAs call end = (Takes call.talk.input [] × LineEnds call end) ⊎ ((routes : List (List PlannedVisit)) × IsAsked call.files call.words Run routes × RunEnds routes call.talk end)
 
--- the call is done, or memory was wanting
-abbrev pub IsDoneOrWant : Status → Type 0
-IsDoneOrWant Done = Unit {0}
-IsDoneOrWant Usage = ⊥
-IsDoneOrWant Input = ⊥
-IsDoneOrWant Journal = ⊥
-IsDoneOrWant ReadFault = ⊥
-IsDoneOrWant StationFault = ⊥
-IsDoneOrWant Memory = Unit {0}
-IsDoneOrWant Limit = ⊥
+-- a command ends well, at the limit of input, or for want of memory
+abbrev pub IsSmooth : Command → Status → Type 0
+IsSmooth command Done = Unit {0}
+IsSmooth command Usage = ⊥
+IsSmooth command Input = ⊥
+IsSmooth command Journal = ⊥
+IsSmooth command ReadFault = ⊥
+IsSmooth command StationFault = ⊥
+IsSmooth command Memory = Unit {0}
+IsSmooth Check Limit = ⊥
+IsSmooth Run Limit = Unit {0}

@@ -3,5 +3,7 @@ pub mod Papers
 pub mod Causes
 pub mod Lines
 pub mod Due
+pub mod Runs
+pub mod Tasks
 pub mod Ends
 pub mod Fetching

@@ -5,11 +5,13 @@ mod fault;
 pub mod laws;
 mod lines;
 mod papers;
-mod reply;
-mod sending;
+mod session;
+mod task;
 #[cfg(test)]
 mod tests;
 mod top;
+#[cfg(test)]
+mod trials;
 mod words;
 mod writing;
 

@@ -1,6 +1,5 @@
 // The map and the plan of a command.
-ghost use Rattle.std.specs.Prelude.{◌≡◌, ◌^◌, ◌≤◌, ◌<◌, ℕ, List, sum_by, length, IfOk, IfErr, OnOk};
-ghost use Rattle.fleet_base.specs.declared.geometry.PlannedVisit.{PlannedVisit};
+ghost use Rattle.std.specs.Prelude.{◌≡◌, ◌^◌, ◌≤◌, ℕ, List, length, IfOk, IfErr, OnOk};
 ghost use Rattle.fleet_base.specs.Plan.{IsAccepted, visits_of};
 ghost use Rattle.fleet_base.specs.Pairs.{pairs_of};
 ghost use Rattle.station_api.specs.Causes.{Counted, Rose};
@@ -30,14 +29,22 @@ pub struct Sound {
     pub pairs: u64,
 }
 
-/// Checks the plan of these two files.
-pub fn check_papers<H: Shelf>(
+/// A plan that is sound on its map, with its pairs.
+#[derive(Drop)]
+pub struct Papers {
+    pub plan: SoundPlan,
+    pub pairs: PairTable,
+}
+
+/// Reads and checks the plan of these two files.
+pub fn read_papers<H: Shelf>(
     alloc: Global,
     shelf: &mut H,
     map_name: &str,
     plan_name: &str,
-) -> Result<Sound, Refusal>
-    ensures sound { IfOk result (λ sound. (routes : List (List PlannedVisit)) × IsSoundPaper (record { tells = H.tells; file = H.file shelf.old }) map_name.now plan_name.now routes × Counts routes sound) }
+) -> Result<Papers, Refusal>
+    ensures sound { IfOk result (λ papers. IsSoundPaper (record { tells = H.tells; file = H.file shelf.old }) map_name.now plan_name.now papers.plan) }
+    ensures pairs { IfOk result (λ papers. papers.pairs ≡ pairs_of papers.plan) }
     ensures refused { IfErr result (HasReason (record { tells = H.tells; file = H.file shelf.old }) (Rose (H.counts shelf.old).faults (H.counts shelf.new).faults) map_name.now plan_name.now) }
     ensures counted { Counted (H.counts shelf.old) (H.counts shelf.new) }
 {
@@ -46,7 +53,8 @@ pub fn check_papers<H: Shelf>(
     let plan_text = fetch(alloc, shelf, plan_name, Paper::Plan)?;
     let raw = plan_of(alloc, &plan_text)?;
     let plan = sound_plan(alloc, &grid, &raw)?;
-    count(alloc, &plan)
+    let pairs = pair_table(alloc, &plan)?;
+    Ok(Papers { plan, pairs })
 }
 
 /// Fetches a file, if it is not too long.
@@ -111,24 +119,32 @@ fn sound_plan(alloc: Global, grid: &Grid, raw: &RawPlan) -> Result<SoundPlan, Re
     }
 }
 
-/// Counts the robots, visits and pairs of a plan.
-fn count(alloc: Global, plan: &SoundPlan) -> Result<Sound, Refusal>
+/// The pairs of a plan.
+fn pair_table(alloc: Global, plan: &SoundPlan) -> Result<PairTable, Refusal>
     ensures few { OnOk result (length (pairs_of plan.now) ≤ 1048576) }
-    ensures counts { IfOk result (Counts plan.now) }
+    ensures pairs { IfOk result (λ table. table ≡ pairs_of plan.now) }
     ensures refused { IfErr result (IsPairsRefusal plan.now) }
 {
-    let robots = plan.robots();
-    let mut visits = 0;
-    for robot in 0..robots {
-        visits += u64::from(plan.last(robot)) + 1;
-    }
     match pairs(alloc, plan) {
-        Ok(table) => Ok(Sound {
-            robots: u64::from(robots),
-            visits,
-            pairs: u64::from(table.len()),
-        }),
+        Ok(table) => Ok(table),
         Err(PairsError::TooMany { count }) => Err(Refusal::Fault(Fault::Pairs { count })),
         Err(PairsError::Memory) => Err(Refusal::Memory),
+    }
+}
+
+/// How many robots, visits and pairs a plan has.
+pub fn sound_of(papers: &Papers) -> Sound
+    requires { papers.now.pairs ≡ pairs_of papers.now.plan }
+    ensures { Counts papers.now.plan result }
+{
+    let robots = papers.plan.robots();
+    let mut visits = 0;
+    for robot in 0..robots {
+        visits += u64::from(papers.plan.last(robot)) + 1;
+    }
+    Sound {
+        robots: u64::from(robots),
+        visits,
+        pairs: u64::from(papers.pairs.len()),
     }
 }

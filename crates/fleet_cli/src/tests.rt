@@ -6,16 +6,16 @@ use std::alloc::Global;
 use std::fmt::Write;
 use std::test::Fail;
 
-const CROSSING_MAP: &[u8] = b"type octile\nheight 3\nwidth 5\nmap\n@@.@@\n.....\n@@.@@\n";
+pub const CROSSING_MAP: &[u8] = b"type octile\nheight 3\nwidth 5\nmap\n@@.@@\n.....\n@@.@@\n";
 
-const CROSSING_PLAN: &[u8] =
+pub const CROSSING_PLAN: &[u8] =
     b"Agent 0: (1,0)->(1,1)->(1,2)->(1,3)->(1,4)\nAgent 1: (0,2)->(0,2)->(0,2)->(1,2)->(2,2)\n";
 
-const CORRIDOR_MAP: &[u8] = b"type octile\nheight 3\nwidth 6\nmap\n.@@@@.\n......\n.@@@@.\n";
+pub const CORRIDOR_MAP: &[u8] = b"type octile\nheight 3\nwidth 6\nmap\n.@@@@.\n......\n.@@@@.\n";
 
 const SQUARE_MAP: &[u8] = b"type octile\nheight 2\nwidth 2\nmap\n..\n..\n";
 
-/// How the program ends over these files, and what it has sent; shelf and station fail at these calls.
+/// How a check ends over these files, and what it has sent; shelf and station fail at these calls.
 fn end_of(
     alloc: Global,
     words: &[&str],
@@ -27,12 +27,18 @@ fn end_of(
     shelf.put(alloc, "P", files.1)?;
     let mut source = MemSource::new(alloc, Vec::new(alloc), Vec::new(alloc));
     let mut station = MemStation::new(alloc, failing.1.to_vec(alloc)?);
+    let list = word_list(alloc, words)?;
+    let status = fleet_main(alloc, &list, &mut shelf, &mut source, &mut station);
+    Ok((status, station))
+}
+
+/// Words as the program takes them.
+pub fn word_list(alloc: Global, words: &[&str]) -> Result<Vec<String>, Fail> {
     let mut list = Vec::new(alloc);
     for word in words {
         list.push(String::from_str(alloc, word)?)?;
     }
-    let status = fleet_main(alloc, &list, &mut shelf, &mut source, &mut station);
-    Ok((status, station))
+    Ok(list)
 }
 
 #[test]
@@ -125,11 +131,13 @@ fn plans_are_checked(rt: HostRuntime) -> Result<(), Fail> {
 
 #[test]
 fn other_words_are_no_command(rt: HostRuntime) -> Result<(), Fail> {
-    let rows: [&[&str]; 8] = [
+    let rows: [&[&str]; 10] = [
         &[],
         &["check"],
         &["check", "M"],
         &["check", "M", "P", "X"],
+        &["run", "M"],
+        &["run", "M", "P", "X"],
         &["check", "", "P"],
         &["check", "M", "-P"],
         &["chec", "M", "P"],

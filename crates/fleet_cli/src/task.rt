@@ -1,16 +1,14 @@
-// What a command answers: one line, and the status that it ends with.
+// What is to be done for some words, once the files are read.
 ghost use Rattle.std.specs.Prelude.{◌≡◌, ◌∷◌, ◌++◌, [], ℕ, List, map, string_bytes, codes, IfOk, IfErr};
-ghost use Rattle.fleet_base.specs.declared.geometry.PlannedVisit.{PlannedVisit};
 ghost use Rattle.station_api.specs.Causes.{Counted, Rose};
 ghost use Rattle.fleet_cli.specs.Papers.{Files};
-ghost use Rattle.fleet_cli.specs.Due.{IsDue, IsAsked, IsCalledFor};
-ghost use Rattle.fleet_cli.specs.Fetching.{Counts};
+ghost use Rattle.fleet_cli.specs.Tasks.{AsksFor, IsCalledFor, IsTask};
 ghost use Rattle.fleet_cli.specs.Lines.{fields, fault_line};
 
 use crate::fault::{Fault, Refusal};
 use crate::lines::push_fault;
-use crate::papers::{Sound, check_papers};
-use crate::words::read_words;
+use crate::papers::{Papers, Sound, read_papers, sound_of};
+use crate::words::{Command, read_words};
 use crate::writing::{push_bytes, push_fields};
 use fleet_base::{Memory, Status, Text};
 use station_api::Shelf;
@@ -23,32 +21,57 @@ pub struct Reply {
     pub text: Text,
 }
 
-/// What these words are answered.
-pub fn reply_to<H: Shelf>(alloc: Global, words: &[String], shelf: &mut H) -> Result<Reply, Memory>
-    ensures due { IfOk result (λ reply. (line : List ℕ) × IsDue (record { tells = H.tells; file = H.file shelf.old }) (Rose (H.counts shelf.old).faults (H.counts shelf.new).faults) (map (λ w. string_bytes w) words.now) reply.status line × (reply.text ≡ line ++ 10 ∷ [])) }
+/// What is left to do.
+#[derive(Drop)]
+pub enum Task {
+    /// A line is to be said.
+    Say(Reply),
+    /// A plan is to be run.
+    Serve(Papers),
+}
+
+/// What is to be done for these words.
+pub fn task_of<H: Shelf>(alloc: Global, words: &[String], shelf: &mut H) -> Result<Task, Memory>
+    ensures task { IfOk result (IsTask (record { tells = H.tells; file = H.file shelf.old }) (Rose (H.counts shelf.old).faults (H.counts shelf.new).faults) (map (λ w. string_bytes w) words.now)) }
     ensures counted { Counted (H.counts shelf.old) (H.counts shelf.new) }
 {
-    match answer_to(alloc, words, shelf) {
-        Ok(sound) => Ok(Reply {
-            status: Status::Done,
-            text: sound_text(alloc, sound)?,
-        }),
-        Err(Refusal::Fault(fault)) => Ok(Reply {
-            status: fault.status(),
-            text: fault_text(alloc, &fault)?,
-        }),
+    match papers_for(alloc, words, shelf) {
+        Ok((Command::Run, papers)) => Ok(Task::Serve(papers)),
+        Ok((Command::Check, papers)) => {
+            let text = sound_text(alloc, sound_of(&papers))?;
+            Ok(Task::Say(Reply {
+                status: Status::Done,
+                text,
+            }))
+        }
+        Err(Refusal::Fault(fault)) => {
+            let text = fault_text(alloc, &fault)?;
+            Ok(Task::Say(Reply {
+                status: fault.status(),
+                text,
+            }))
+        }
         Err(Refusal::Memory) => Err(Memory),
     }
 }
 
-/// The numbers of the plan that these words ask for.
-fn answer_to<H: Shelf>(alloc: Global, words: &[String], shelf: &mut H) -> Result<Sound, Refusal>
-    ensures sound { IfOk result (λ sound. (routes : List (List PlannedVisit)) × IsAsked (record { tells = H.tells; file = H.file shelf.old }) (map (λ w. string_bytes w) words.now) routes × Counts routes sound) }
+/// The command of these words, and the plan that they name.
+fn papers_for<H: Shelf>(
+    alloc: Global,
+    words: &[String],
+    shelf: &mut H,
+) -> Result<(Command, Papers), Refusal>
+    ensures asked { IfOk result (λ asked. AsksFor (record { tells = H.tells; file = H.file shelf.old }) (map (λ w. string_bytes w) words.now) asked.0 asked.1) }
     ensures refused { IfErr result (IsCalledFor (record { tells = H.tells; file = H.file shelf.old }) (Rose (H.counts shelf.old).faults (H.counts shelf.new).faults) (map (λ w. string_bytes w) words.now)) }
     ensures counted { Counted (H.counts shelf.old) (H.counts shelf.new) }
 {
     match read_words(words) {
-        Some((map_name, plan_name)) => check_papers(alloc, shelf, map_name, plan_name),
+        Some((command, map_name, plan_name)) => {
+            match read_papers(alloc, shelf, map_name, plan_name) {
+                Ok(papers) => Ok((command, papers)),
+                Err(refusal) => Err(refusal),
+            }
+        }
         None => Err(Refusal::Fault(Fault::Usage)),
     }
 }
