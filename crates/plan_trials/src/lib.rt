@@ -2,11 +2,19 @@
 #![tactic(auto)]
 
 #[cfg(test)]
+mod drawn;
+#[cfg(test)]
+mod fleets;
+#[cfg(test)]
 mod limits;
 #[cfg(test)]
 mod reading;
 #[cfg(test)]
 mod reports;
+#[cfg(test)]
+mod rounds;
+#[cfg(test)]
+mod schedules;
 #[cfg(test)]
 mod slow;
 #[cfg(test)]

@@ -17,7 +17,7 @@ pub struct Dice {
 
 impl Dice {
     /// One of five numbers.
-    fn roll(&mut self) -> u64 {
+    pub fn roll(&mut self) -> u64 {
         self.state = self
             .state
             .wrapping_mul(6_364_136_223_846_793_005)

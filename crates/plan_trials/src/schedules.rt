@@ -1,0 +1,193 @@
+// Least schedules of the crossing and of the corridor: their sums, their paths, and a cycle.
+ghost use Rattle.std.specs.Prelude.{IfOk, OnOk};
+ghost use Rattle.fleet_base.specs.Rules.{IsFleetState};
+ghost use Rattle.fleet_base.specs.Schedule.{IsLeastSchedule};
+ghost use Rattle.plan_graph.specs.Views.{order_in};
+ghost use Rattle.longest_path.specs.Ticks.{IsKeptFor, schedule_in};
+ghost use Rattle.longest_path.specs.Closed.{AgreesOnClosed};
+
+use crate::fleets::{first_of, hear, schedules, view_with};
+use crate::reading::sound_plan;
+use crate::reports::{MAP, PLAN, arrive, delay};
+use fleet_base::{Fleet, PairId, PairList, Report, Side};
+use longest_path::{Ticks, earliest};
+use plan_graph::{Oriented, PlanGraph};
+use std::alloc::Global;
+use std::test::Fail;
+
+/// A map and a plan on it.
+type Texts = (&'static [u8], &'static [u8]);
+
+const CROSSING: Texts = (MAP, PLAN);
+
+const CORRIDOR: Texts = (
+    b"type octile\nheight 3\nwidth 6\nmap\n.@@@@.\n......\n.@@@@.\n",
+    b"Agent 0: (0,0)->(1,0)->(1,1)->(1,2)->(1,3)->(1,4)->(1,5)->(2,5)\nAgent 1: (0,5)->(0,5)->(0,5)->(0,5)->(0,5)->(0,5)->(0,5)->(1,5)->(1,4)->(1,3)->(1,2)->(1,1)->(1,0)->(2,0)\n",
+);
+
+/// A plan with its first state, after these reports.
+fn after(alloc: Global, texts: Texts, reports: &[Report]) -> Result<(PlanGraph, Fleet), Fail>
+    ensures { IfOk result (λ made. IsFleetState made.0 made.1) }
+{
+    let plan = sound_plan(alloc, texts.0, texts.1)?;
+    let (graph, mut fleet) = first_of(alloc, &plan)?;
+    hear_all(alloc, &graph, &mut fleet, reports)?;
+    Ok((graph, fleet))
+}
+
+fn hear_all(
+    alloc: Global,
+    graph: &PlanGraph,
+    fleet: &mut Fleet,
+    reports: &[Report],
+) -> Result<(), Fail>
+    requires { IsFleetState graph.now fleet.old }
+    ensures { OnOk result (IsFleetState graph.now fleet.new) }
+{
+    for report in reports {
+        hear(alloc, graph, fleet, report)?;
+    }
+    Ok(())
+}
+
+/// The sum of the last ticks of the least schedule, and the paths of robots 0 and 1.
+fn least(
+    alloc: Global,
+    graph: &PlanGraph,
+    fleet: &Fleet,
+    sides: &[(u32, Side)],
+) -> Result<(u64, PairList, PairList), Fail>
+    requires { IsFleetState graph.now fleet.now }
+{
+    let view = view_with(alloc, graph, fleet, sides)?;
+    let mut ticks = Ticks::new(alloc, graph)?;
+    found(alloc, &view, fleet, &mut ticks)
+}
+
+fn found(
+    alloc: Global,
+    view: &Oriented<'_>,
+    fleet: &Fleet,
+    ticks: &mut Ticks,
+) -> Result<(u64, PairList, PairList), Fail>
+    requires state { IsFleetState view.now.graph fleet.now }
+    requires closed { AgreesOnClosed view.now.graph fleet.now (order_in view.now) }
+    requires room { IsKeptFor view.now.graph ticks.old }
+{
+    match earliest(view, fleet, ticks) {
+        Ok(()) => paths(alloc, view, fleet, ticks),
+        Err(_) => Err(Fail::from("no cycle")),
+    }
+}
+
+fn paths(
+    alloc: Global,
+    view: &Oriented<'_>,
+    fleet: &Fleet,
+    ticks: &Ticks,
+) -> Result<(u64, PairList, PairList), Fail>
+    requires state { IsFleetState view.now.graph fleet.now }
+    requires closed { AgreesOnClosed view.now.graph fleet.now (order_in view.now) }
+    requires room { IsKeptFor view.now.graph ticks.now }
+    requires least { IsLeastSchedule view.now.graph fleet.now (order_in view.now) (schedule_in ticks.now) }
+{
+    if view.graph().robots() < 2 {
+        return Err(Fail::from("two robots"));
+    }
+    let first = ticks.tight_path(alloc, view, fleet, 0)?;
+    let second = ticks.tight_path(alloc, view, fleet, 1)?;
+    Ok((ticks.end_sum(), first, second))
+}
+
+/// The lower side for each open pair of the corridor.
+const ALL_LOWER: [(u32, Side); 5] = [
+    (1, Side::Lower),
+    (2, Side::Lower),
+    (3, Side::Lower),
+    (4, Side::Lower),
+    (5, Side::Lower),
+];
+
+/// A plan, reports and sides of open pairs; and the sum and the two paths of the least schedule then.
+type Row<'a> = (
+    Texts,
+    &'a [Report],
+    &'a [(u32, Side)],
+    u64,
+    &'a [PairId],
+    &'a [PairId],
+);
+
+#[test]
+fn schedules_have_these_sums_and_paths(rt: HostRuntime) -> Result<(), Fail> {
+    let east_late = [delay(0, 1, 5, 0)];
+    let south_late = [delay(1, 1, 1, 0)];
+    let east_done = [
+        arrive(0, 1, 1),
+        arrive(0, 2, 2),
+        arrive(0, 3, 3),
+        arrive(0, 4, 4),
+    ];
+    // A robot is under way, and the moment, its release, or its last arrival decides when its move can end.
+    let by_the_moment = [delay(1, 1, 3, 10)];
+    let by_the_release = [
+        delay(1, 1, 5, 0),
+        arrive(0, 1, 1),
+        arrive(0, 2, 2),
+        arrive(0, 3, 3),
+    ];
+    let by_the_arrival = [arrive(0, 1, 1), delay(0, 2, 4, 1)];
+    let lower = [(0, Side::Lower)];
+    let higher = [(0, Side::Higher)];
+    let by_pair = [PairId(0)];
+    let last_pair = [PairId(5)];
+    let rows: [Row; 11] = [
+        (CROSSING, &east_late, &lower, 19, &[], &by_pair),
+        (CROSSING, &east_late, &higher, 11, &[], &[]),
+        (CROSSING, &east_late, &[], 11, &[], &[]),
+        (CROSSING, &south_late, &lower, 10, &[], &by_pair),
+        (CROSSING, &south_late, &higher, 9, &by_pair, &[]),
+        (CROSSING, &south_late, &[], 7, &[], &[]),
+        (CROSSING, &east_done, &[], 9, &[], &[]),
+        (CROSSING, &by_the_moment, &[], 28, &[], &[]),
+        (CROSSING, &by_the_release, &[], 14, &[], &[]),
+        (CROSSING, &by_the_arrival, &[], 17, &[], &by_pair),
+        (CORRIDOR, &east_late, &ALL_LOWER, 31, &[], &last_pair),
+    ];
+    for row in rows {
+        assert_eq!(rt; holds(rt.alloc(), &row)?, true);
+    }
+    Ok(())
+}
+
+/// Whether a row's sum and paths are those of the least schedule.
+fn holds(alloc: Global, row: &Row) -> Result<bool, Fail> {
+    let (graph, fleet) = after(alloc, row.0, row.1)?;
+    let found = least(alloc, &graph, &fleet, row.2)?;
+    Ok(found.0 == row.3 && found.1.as_slice() == row.4 && found.2.as_slice() == row.5)
+}
+
+/// The pairs of the cycle that the schedule of a view has.
+fn cycle(
+    alloc: Global,
+    graph: &PlanGraph,
+    fleet: &Fleet,
+    sides: &[(u32, Side)],
+) -> Result<PairList, Fail>
+    requires { IsFleetState graph.now fleet.now }
+{
+    let view = view_with(alloc, graph, fleet, sides)?;
+    let mut ticks = Ticks::new(alloc, graph)?;
+    if schedules(&view, fleet, &mut ticks) {
+        return Err(Fail::from("a cycle"));
+    }
+    Ok(PairList::from_slice(alloc, ticks.cycle())?)
+}
+
+#[test]
+fn two_sides_close_a_cycle(rt: HostRuntime) -> Result<(), Fail> {
+    let (graph, fleet) = after(rt.alloc(), CORRIDOR, &[delay(0, 1, 5, 0)])?;
+    let found = cycle(rt.alloc(), &graph, &fleet, &[(1, Side::Higher)])?;
+    assert_eq!(rt; found.as_slice(), [PairId(0), PairId(1)].as_slice());
+    Ok(())
+}
