@@ -1,5 +1,5 @@
 #!/usr/bin/env python3
-"""Times `fleet check` on large files of its own making, beside `cksum` and `wc -w` of the same files, and rankings.
+"""Times `fleet check` on large files of its own making, beside `cksum` and `wc -w` of the same files, rankings and schedules.
 
 Usage: bench/bench.py FLEET RANK_BENCH
 
@@ -98,14 +98,17 @@ def check_table(program):
 
 
 def rank_table(program):
-    print("| pairs | visits | milliseconds of one ranking | peak MB |")
-    print("|---|---|---|---|")
+    print("| pairs | visits | milliseconds of one ranking | of one schedule | peak MB |")
+    print("|---|---|---|---|---|")
     for most in (262144, 524288, 1048576):
         steps = longest_convoy(256, most)
-        before = least([program, "256", str(steps), "0"])[0]
-        after, memory, _ = least([program, "256", str(steps), str(RANKS)])
-        each = 1000 * (after - before) / RANKS
-        print(f"| {pairs_of_convoy(256, steps):,} | {256 * (steps + 1):,} | {each:.0f} | {memory:.0f} |")
+        before = least([program, "256", str(steps), "0", "0"])[0]
+        ranked, memory, _ = least([program, "256", str(steps), str(RANKS), "0"])
+        scheduled = least([program, "256", str(steps), "0", str(RANKS)])[0]
+        rank = 1000 * (ranked - before) / RANKS
+        schedule = 1000 * (scheduled - before) / RANKS
+        visits = 256 * (steps + 1)
+        print(f"| {pairs_of_convoy(256, steps):,} | {visits:,} | {rank:.0f} | {schedule:.0f} | {memory:.0f} |")
 
 
 def main():

@@ -1,9 +1,10 @@
 // Rankings of one view, again and again in one room.
-ghost use Rattle.std.specs.Prelude.{IfSome};
+ghost use Rattle.std.specs.Prelude.{◌≡◌, IfSome};
 ghost use Rattle.plan_check.specs.Faults.{HasRobots};
 ghost use Rattle.plan_graph.specs.Views.{IsRankingFor};
 
 use crate::convoy;
+use crate::schedules::schedule_often;
 use fleet_base::{PairId, PairTable, RawPlan, SoundPlan};
 use map_text::read_map;
 use plan_check::check;
@@ -12,12 +13,14 @@ use plan_text::read_plan;
 use std::alloc::Global;
 use switch_pairs::pairs;
 
-/// Ranks the sides of the robots' plan so many times; none if there is no such plan, or memory is wanting.
-pub fn ranked(alloc: Global, robots: u64, steps: u64, times: u64) -> Option<()> {
+/// Ranks the sides of the robots' plan so many times, and then makes its schedule so many times; none if there is no such
+/// plan, or memory is wanting.
+pub fn ranked(alloc: Global, robots: u64, steps: u64, ranks: u64, schedules: u64) -> Option<()> {
     let plan = sound_plan(alloc, robots, steps)?;
     let table = pairs(alloc, &plan).ok()?;
     let graph = PlanGraph::new(alloc, &plan, &table).ok()?;
-    rank_often(alloc, &graph, &table, times)
+    rank_often(alloc, &graph, &table, ranks)?;
+    schedule_often(alloc, &plan, &graph, &table, schedules)
 }
 
 fn sound_plan(alloc: Global, robots: u64, steps: u64) -> Option<SoundPlan> {
@@ -44,15 +47,23 @@ fn raw_of(alloc: Global, text: &[u8]) -> Option<RawPlan>
 }
 
 fn rank_often(alloc: Global, graph: &PlanGraph, table: &PairTable, times: u64) -> Option<()> {
+    let view = plan_view(alloc, graph, table)?;
+    let mut room = RankRoom::new(alloc, graph).ok()?;
+    repeat(&view, &mut room, times);
+    Some(())
+}
+
+/// The view that gives each pair the plan's side.
+pub fn plan_view<'g>(alloc: Global, graph: &'g PlanGraph, table: &PairTable) -> Option<Oriented<'g>>
+    ensures { IfSome result (λ view. view.graph ≡ graph.now) }
+{
     let mut view = graph.orient(alloc).ok()?;
     for q in 0..table.len() {
         if q < graph.pair_count() {
             view.set(PairId(q), Some(table.pair(PairId(q)).first));
         }
     }
-    let mut room = RankRoom::new(alloc, graph).ok()?;
-    repeat(&view, &mut room, times);
-    Some(())
+    Some(view)
 }
 
 fn repeat(view: &Oriented<'_>, room: &mut RankRoom, times: u64)

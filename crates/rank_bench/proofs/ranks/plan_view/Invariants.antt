@@ -1,5 +1,5 @@
 use Rattle.std.proofs.Common.{◌≡◌}
-use Rattle.rank_bench.proofs.ranks.rank_often.Given as goal
+use Rattle.rank_bench.proofs.ranks.plan_view.Given as goal
 
 abbrev pub invariant-loop-q : goal.invariant-loop-q
 invariant-loop-q l = l.view.graph ≡ l.graph
