@@ -7,8 +7,10 @@ Each row of the first table is one pair of files, each row of the second one pla
 processor time of the process; the memory is the greatest resident size. The tables are written in Markdown.
 """
 import os
+import subprocess
 import sys
 import tempfile
+import time
 
 RUNS = 9
 RANKS = 40
@@ -111,10 +113,45 @@ def rank_table(program):
         print(f"| {pairs_of_convoy(256, steps):,} | {visits:,} | {rank:.0f} | {schedule:.0f} | {memory:.0f} |")
 
 
+def convoy_reports(robots, steps):
+    """The arrivals of a convoy, step by step from its first robot on: each is released when it is reported."""
+    return "".join(f"arrive {robot} {step} {step}\n" for step in range(1, steps + 1) for robot in range(robots))
+
+
+def piped(command, data):
+    """The seconds from the start to the end of a command that is fed over one pipe and read over another."""
+    start = time.perf_counter()
+    subprocess.run(command, input=data, stdout=subprocess.PIPE, check=True)
+    return time.perf_counter() - start
+
+
+def session_table(program):
+    robots, steps = 32, 320
+    data = convoy_reports(robots, steps).encode()
+    reports = robots * steps
+    with tempfile.TemporaryDirectory() as folder:
+        map_path, plan_path = (os.path.join(folder, name) for name in ("M", "P"))
+        with open(map_path, "w") as file:
+            file.write(f"type octile\nheight 1\nwidth {robots + steps}\nmap\n" + "." * (robots + steps) + "\n")
+        write_plan(plan_path, robots, convoy(robots, steps))
+        command = [program, "run", map_path, plan_path]
+        answers = subprocess.run(command, input=data, stdout=subprocess.PIPE, check=True).stdout
+        assert answers.endswith(f"ok {reports}\n".encode())
+        empty = min(piped(command, b"") for _ in range(RUNS))
+        whole = min(piped(command, data) for _ in range(RUNS))
+        copied = min(piped(["cat"], data) for _ in range(RUNS))
+    print("| reports | robots | pairs | bytes in | bytes out | microseconds of one report | reports a second | seconds of `cat` |")
+    print("|---|---|---|---|---|---|---|---|")
+    each = (whole - empty) / reports
+    print(f"| {reports:,} | {robots} | {pairs_of_convoy(robots, steps):,} | {len(data):,} | {len(answers):,} | {1e6 * each:.0f} | {1 / each:,.0f} | {copied:.3f} |")
+
+
 def main():
     check_table(os.path.abspath(sys.argv[1]))
     print()
     rank_table(os.path.abspath(sys.argv[2]))
+    print()
+    session_table(os.path.abspath(sys.argv[1]))
 
 
 if __name__ == "__main__":
