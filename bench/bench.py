@@ -125,10 +125,13 @@ def piped(command, data):
     return time.perf_counter() - start
 
 
-def session_table(program):
-    robots, steps = 32, 320
-    data = convoy_reports(robots, steps).encode()
-    reports = robots * steps
+def delays(robots, visit, rounds):
+    """Delays of one visit of each robot, another one in each round."""
+    return "".join(f"delay {robot} {visit} {extra} 0\n" for extra in range(1, rounds + 1) for robot in range(robots))
+
+
+def session_row(program, robots, steps, data):
+    reports = data.count(b"\n")
     with tempfile.TemporaryDirectory() as folder:
         map_path, plan_path = (os.path.join(folder, name) for name in ("M", "P"))
         with open(map_path, "w") as file:
@@ -140,10 +143,16 @@ def session_table(program):
         empty = min(piped(command, b"") for _ in range(RUNS))
         whole = min(piped(command, data) for _ in range(RUNS))
         copied = min(piped(["cat"], data) for _ in range(RUNS))
-    print("| reports | robots | pairs | bytes in | bytes out | microseconds of one report | reports a second | seconds of `cat` |")
-    print("|---|---|---|---|---|---|---|---|")
     each = (whole - empty) / reports
-    print(f"| {reports:,} | {robots} | {pairs_of_convoy(robots, steps):,} | {len(data):,} | {len(answers):,} | {1e6 * each:.0f} | {1 / each:,.0f} | {copied:.3f} |")
+    pairs, visits = pairs_of_convoy(robots, steps), robots * (steps + 1)
+    print(f"| {reports:,} | {visits:,} | {pairs:,} | {len(data):,} | {len(answers):,} | {1e6 * each:.0f} | {1 / each:,.0f} | {1e6 * copied / reports:.1f} |")
+
+
+def session_table(program):
+    print("| reports | visits | pairs | bytes in | bytes out | microseconds of one report | reports a second | microseconds of `cat` for one |")
+    print("|---|---|---|---|---|---|---|---|")
+    session_row(program, 32, 6, delays(32, 6, 320).encode())
+    session_row(program, 32, 320, convoy_reports(32, 320).encode())
 
 
 def main():
