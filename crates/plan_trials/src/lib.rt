@@ -16,6 +16,8 @@ mod rounds;
 #[cfg(test)]
 mod schedules;
 #[cfg(test)]
+mod sessions;
+#[cfg(test)]
 mod slow;
 #[cfg(test)]
 mod steps;
@@ -23,3 +25,5 @@ mod steps;
 mod tests;
 #[cfg(test)]
 mod walks;
+#[cfg(test)]
+mod world;

@@ -21,9 +21,9 @@ use switch_pairs::pairs;
 
 const ROW: &[u8] = b"type octile\nheight 1\nwidth 4\nmap\n....\n";
 
-const HALL: &[u8] = b"type octile\nheight 3\nwidth 6\nmap\n.@@@@.\n......\n.@@@@.\n";
+pub const HALL: &[u8] = b"type octile\nheight 3\nwidth 6\nmap\n.@@@@.\n......\n.@@@@.\n";
 
-const CORRIDOR: &[u8] =
+pub const CORRIDOR: &[u8] =
     b"Agent 0: (0,0)->(1,0)->(1,1)->(1,2)->(1,3)->(1,4)->(1,5)->(2,5)\nAgent 1: (0,5)->(0,5)->(0,5)->(0,5)->(0,5)->(0,5)->(0,5)->(1,5)->(1,4)->(1,3)->(1,2)->(1,1)->(1,0)->(2,0)\n";
 
 /// What a report came to: the visits that its entry releases, or why its switch is refused.

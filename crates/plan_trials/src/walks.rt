@@ -1,4 +1,6 @@
 // Walks of robots on an open square, drawn at random: no robot enters a cell that another is in or enters.
+ghost use Rattle.std.specs.Prelude.{◌<◌};
+
 use fleet_base::Cell;
 use std::alloc::Global;
 use std::fmt::Write;
@@ -17,7 +19,9 @@ pub struct Dice {
 
 impl Dice {
     /// One of five numbers.
-    pub fn roll(&mut self) -> u64 {
+    pub fn roll(&mut self) -> u64
+        ensures { result < 5 }
+    {
         self.state = self
             .state
             .wrapping_mul(6_364_136_223_846_793_005)
