@@ -1,0 +1,61 @@
+-- Places of visits in a list, and what is before what there.
+use Rattle.std.proofs.Common.{ℕ, suc, zero, ◌≡◌, ◌+◌, ◌<◌, ◌≤◌, ◌⊎◌, List, [], ◌∷◌, Some, Option, true, false, Bool, cond, refl, ap, inl, inr, arith, length, eqb}
+use Rattle.std.specs.Prelude.{slice_get, ◌&&◌, Contains}
+use Rattle.std.proofs.lemmas.Bool.{eq-eqb, eqb-true}
+use Rattle.fleet_base.specs.declared.geometry.Visit.{Visit}
+use Rattle.fleet_base.specs.declared.order.PairId.{PairId}
+use Rattle.fleet_base.specs.declared.order.Side.{Side}
+use Rattle.fleet_base.specs.Pairs.{same_visit}
+use Rattle.fleet_base.specs.Order.{Graph, IsGraph, IsVisit, IsCycle, IsSorted, Before, next_visit}
+use Rattle.fleet_base.proofs.Members.{in_cons, in_none}
+use Rattle.cert_check.proofs.EdgeLaws.{head_there, visit_before, no_cycle}
+
+both : (s t : Bool) → (s && t) ≡ true → (s ≡ true) × (t ≡ true)
+both true t h = (refl, h)
+both false t h = cc
+
+both_true : (s t : Bool) → s ≡ true → t ≡ true → (s && t) ≡ true
+both_true true t a b = b
+both_true false t a b = cc
+
+pub same_visit_true : (u v : Visit) → same_visit u v ≡ true → u ≡ v
+same_visit_true u v h =
+    let r = eqb-true u.robot v.robot (both (eqb u.robot v.robot) (eqb u.index v.index) h).0 in
+    let k = eqb-true u.index v.index (both (eqb u.robot v.robot) (eqb u.index v.index) h).1 in
+    λ j. record { robot = r j; index = k j }
+
+pub same_visit_refl : (u v : Visit) → u ≡ v → same_visit u v ≡ true
+same_visit_refl u v e = both_true (eqb u.robot v.robot) (eqb u.index v.index) (eq-eqb u.robot v.robot (ap (λ (w : Visit). w.robot) e)) (eq-eqb u.index v.index (ap (λ (w : Visit). w.index) e))
+
+-- the place of a visit in a list, and its length where it is not in it
+abbrev pub place_in : List Visit → Visit → ℕ
+place_in [] v = 0
+place_in (y ∷ ys) v = cond (same_visit y v) 0 (suc (place_in ys v))
+
+-- a visit in the list stands at its place
+pub stands : (list : List Visit) (v : Visit) → Contains list v → (place_in list v < length list) × (slice_get list (place_in list v) ≡ Some v)
+stands [] v h = absurd (in_none v h)
+stands (y ∷ ys) v h = go (same_visit y v) refl (in_cons y ys v h) (λ r. stands ys v r)
+  where
+    go : (b : Bool) → same_visit y v ≡ b → (y ≡ v) ⊎ Contains ys v → (Contains ys v → (place_in ys v < length ys) × (slice_get ys (place_in ys v) ≡ Some v))
+        → (cond b 0 (suc (place_in ys v)) < length (y ∷ ys)) × (slice_get (y ∷ ys) (cond b 0 (suc (place_in ys v))) ≡ Some v)
+    go true e o rest = (omega arith, ap Some (same_visit_true y v e))
+    go false e (inl s) rest = let t = same_visit_refl y v s in cc
+    go false e (inr r) rest = (omega (arith, (rest r).0), (rest r).1)
+
+module _ (g : Graph) (order : ℕ → Option Side) (list : List Visit) (sorted : IsSorted g order list) where
+  -- what is before a visit has an earlier place
+  pub earlier : (u v : Visit) → IsVisit g u → IsVisit g v → Before g order u v → place_in list u < place_in list v
+  earlier u v iu iv b = sorted.forward (place_in list u) (place_in list v) u v (stands list u (sorted.each u iu)).1 (stands list v (sorted.each v iv)).1 b
+
+  step : (v : Visit) → IsVisit g (next_visit v) → place_in list v ≤ place_in list (next_visit v)
+  step v is = let h = earlier v (next_visit v) (visit_before g v.robot (v.index + 1) v.index is (omega arith)) is (inl refl) in omega arith
+
+  pub no_cycle_sorted : IsGraph g → (cycle : List PairId) → IsCycle g order cycle → ⊥
+  no_cycle_sorted graph = no_cycle g order (place_in list) step (λ q u v iu e. earlier u v iu (head_there g order q u v graph e) (inr (q, e)))
+
+-- a place where something is listed is within the list
+pub listed_within : {X : Type 0} (xs : List X) (q : ℕ) (x : X) → slice_get xs q ≡ Some x → q < length xs
+listed_within [] q x e = cc
+listed_within (y ∷ ys) zero x e = omega arith
+listed_within (y ∷ ys) (suc q) x e = omega (arith, listed_within ys q x e)

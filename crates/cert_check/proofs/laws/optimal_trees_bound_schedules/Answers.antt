@@ -1,0 +1,5 @@
+use Rattle.cert_check.proofs.TreeBound.{optimal_below}
+use Rattle.cert_check.proofs.laws.optimal_trees_bound_schedules.Goals as goal
+
+pub returns : goal.returns
+returns c = optimal_below

@@ -1,0 +1,10 @@
+use Rattle.std.proofs.Common.{◌+◌, arith}
+use Rattle.cert_check.proofs.Walks.{travel_more}
+use Rattle.cert_check.proofs.path.moves.Goals as goal
+
+pub loop-index-preserved : goal.loop-index-preserved
+loop-index-preserved c =
+    let i = c.loop-index.invariant in
+    let more = travel_more c.args.fleet.now c.args.from c.loop-index.index c.loop-index.auto.index in
+    let one = c.requires.state.delays (record { robot = c.args.from.robot; index = c.loop-index.index + 1 }) in
+    (omega (arith, i.0, more, c.duration-sum.ensures), omega (arith, i.1, one, c.duration-sum.ensures, c.loop-index.auto.index), λ lt. absurd (omega (arith, lt, c.loop-index-test.true, c.loop-index.auto.index)))

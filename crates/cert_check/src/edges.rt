@@ -1,0 +1,119 @@
+ghost use Rattle.std.specs.Prelude.{◌≡◌, ◌<◌, ◌+◌, ◌^◌, ◌↔◌, None, length, true, IsTrue, IfSome};
+ghost use Rattle.fleet_base.specs.Order.{IsVisit, next_visit, first_visit, second_visit};
+ghost use Rattle.fleet_base.specs.Open.{is_open, is_settled};
+ghost use Rattle.fleet_base.specs.Rules.{IsFleetState};
+ghost use Rattle.cert_check.specs.Paths.{edge_in, leads_on};
+ghost use Rattle.cert_check.specs.Sides.{decided, order_by, HasSides};
+
+use fleet_base::{Fleet, Pair, PairId, Side, Visit};
+use plan_graph::PlanGraph;
+
+/// The edge of a pair: from the first robot's following visit to the other robot's visit.
+#[derive(Clone, Copy)]
+pub(crate) struct Edge {
+    pub(crate) tail: Visit,
+    pub(crate) head: Visit,
+}
+
+/// Whether a visit is released, or its robot's last.
+fn settled(graph: &PlanGraph, fleet: &Fleet, v: Visit) -> bool
+    requires state { IsFleetState graph.now fleet.now }
+    requires there { IsVisit graph.now v }
+    ensures { result ≡ is_settled graph.now fleet.now v }
+{
+    v.index <= fleet.released(v.robot) || v.index == graph.last(v.robot)
+}
+
+/// Whether a pair is open.
+pub(crate) fn open(graph: &PlanGraph, fleet: &Fleet, q: PairId) -> bool
+    requires state { IsFleetState graph.now fleet.now }
+    requires pair { q.0 < length graph.now.pairs }
+    ensures { result ≡ is_open graph.now fleet.now q.0 }
+{
+    let pair = graph.pair(q);
+    !settled(graph, fleet, pair.lower) && !settled(graph, fleet, pair.higher)
+}
+
+/// Whether a pair is there, open and undecided.
+pub(crate) fn free(graph: &PlanGraph, fleet: &Fleet, sides: &[Option<Side>], q: PairId) -> bool
+    requires state { IsFleetState graph.now fleet.now }
+    requires sides { HasSides graph.now sides.now }
+    ensures { IsTrue result ↔ (is_open graph.now fleet.now q.0 ≡ true) × (decided sides.now q.0 ≡ None) }
+{
+    q.0 < graph.pair_count() && sides[q.0 as usize].is_none() && open(graph, fleet, q)
+}
+
+/// The side of a pair, if it is closed or decided.
+fn side(graph: &PlanGraph, fleet: &Fleet, sides: &[Option<Side>], q: PairId) -> Option<Side>
+    requires state { IsFleetState graph.now fleet.now }
+    requires sides { HasSides graph.now sides.now }
+    requires pair { q.0 < length graph.now.pairs }
+    ensures { result ≡ order_by graph.now fleet.now sides.now q.0 }
+{
+    if open(graph, fleet, q) {
+        sides[q.0 as usize]
+    } else {
+        Some(fleet.side(q))
+    }
+}
+
+/// The edge of a pair, if the pair is there and has a side.
+pub(crate) fn find_edge(
+    graph: &PlanGraph,
+    fleet: &Fleet,
+    sides: &[Option<Side>],
+    q: PairId,
+) -> Option<Edge>
+    requires state { IsFleetState graph.now fleet.now }
+    requires sides { HasSides graph.now sides.now }
+    ensures value { result ≡ edge_in graph.now (order_by graph.now fleet.now sides.now) q.0 }
+    ensures tail { IfSome result (λ e. IsVisit graph.now e.tail) }
+    ensures head { IfSome result (λ e. IsVisit graph.now e.head) }
+{
+    if q.0 >= graph.pair_count() {
+        return None;
+    }
+    let _within = graph.robots();
+    match side(graph, fleet, sides, q) {
+        Some(side) => Some(edge_of(graph, graph.pair(q), side)),
+        None => None,
+    }
+}
+
+/// The edge of a pair with this side.
+fn edge_of(graph: &PlanGraph, pair: Pair, side: Side) -> Edge
+    requires lower { IsVisit graph.now pair.lower }
+    requires higher { IsVisit graph.now pair.higher }
+    ensures tail { result.tail ≡ next_visit (first_visit pair side) }
+    ensures head { result.head ≡ second_visit pair side }
+{
+    let _within = graph.robots();
+    match side {
+        Side::Lower => Edge {
+            tail: following(pair.lower),
+            head: pair.higher,
+        },
+        Side::Higher => Edge {
+            tail: following(pair.higher),
+            head: pair.lower,
+        },
+    }
+}
+
+fn following(v: Visit) -> Visit
+    requires { v.index + 1 < 2 ^ 32 }
+    ensures { result ≡ next_visit v }
+{
+    Visit {
+        robot: v.robot,
+        index: v.index + 1,
+    }
+}
+
+/// Whether a walk that is at a visit can go along its robot to the other visit.
+pub(crate) fn leads(graph: &PlanGraph, at: Visit, to: Visit) -> bool
+    requires { to.robot < length graph.now.lasts }
+    ensures { result ≡ leads_on graph.now at to }
+{
+    at.robot == to.robot && at.index <= to.index && to.index <= graph.last(to.robot)
+}

@@ -1,0 +1,276 @@
+ghost use Rattle.std.specs.Prelude.{◌≡◌, ◌<◌, ◌≤◌, ◌^◌, ◌↔◌, true, None, ℕ, List, IsTrue, All, length, map, slice_get, Some};
+ghost use Rattle.std.specs.List.Sorted.{IsStrictlyIncreasing};
+ghost use Rattle.fleet_base.specs.Order.{IsVisit, next_visit, first_visit, second_visit};
+ghost use Rattle.fleet_base.specs.Open.{is_open};
+ghost use Rattle.fleet_base.specs.Rules.{IsFleetState};
+ghost use Rattle.fleet_base.specs.Schedule.{ObeysSide};
+ghost use Rattle.cert_tree.specs.declared.node.Node.TheVariants.{Branch, Force, Cyclic, Bound, OpenLeaf};
+ghost use Rattle.cert_tree.specs.CertText.{IsWritten};
+ghost use Rattle.cert_check.specs.declared.judge.Kind.TheVariants as kind;
+ghost use Rattle.cert_check.specs.Decisions.{Decision, other};
+ghost use Rattle.cert_check.specs.Sides.{decided, HasSides};
+ghost use Rattle.cert_check.specs.Trees.{IsNeeded, IsLeftOpen};
+ghost use Rattle.cert_check.specs.Judging.{IsJudged, Gives};
+ghost use Rattle.cert_check.specs.Rounds.{ticks_of, HasTicks, IsBelow, KeepsRows};
+
+use crate::NoWhy;
+use crate::cycle::is_cycle;
+use crate::edges::free;
+use crate::path::{duration, total};
+use crate::rounds::{Ticks, end_sum, relax, tick_of};
+use cert_tree::{CertPath, Node};
+use fleet_base::{Fleet, Pair, PairId, Side, Visit};
+use plan_graph::PlanGraph;
+
+/// What a tree is judged as.
+#[derive(Clone, Copy)]
+pub(crate) enum Kind {
+    Optimal,
+    Spent { least: u64, budget: u64 },
+}
+
+/// The first word that fits a node, given the sides that are decided on the way to it.
+pub(crate) fn judge(
+    graph: &PlanGraph,
+    fleet: &Fleet,
+    kind: Kind,
+    cost: u64,
+    node: &Node,
+    sides: &mut [Option<Side>],
+    ticks: &mut Ticks,
+) -> Option<NoWhy>
+    requires state { IsFleetState graph.now fleet.now }
+    requires sides { HasSides graph.now sides.old }
+    requires ticks { HasTicks graph.now ticks.old }
+    requires written { IsWritten node.now }
+    ensures word { IsJudged graph.now fleet.now cost kind sides.old node.now result }
+    ensures sides { sides.new ≡ sides.old }
+    ensures rows { KeepsRows ticks.old ticks.new }
+{
+    match node {
+        Node::Branch { pair } => judge_branch(graph, fleet, kind, cost, *pair, sides, ticks),
+        Node::Force { pair, side, cycle } => judge_force(
+            graph,
+            fleet,
+            *pair,
+            *side,
+            cycle.as_slice(),
+            sides,
+        ),
+        Node::Cyclic { cycle } => judge_cyclic(graph, fleet, cycle.as_slice(), sides),
+        Node::Bound { paths } => judge_bound(graph, fleet, cost, paths.as_slice(), sides),
+        Node::OpenLeaf { least } => judge_leaf(graph, fleet, kind, cost, *least, sides, ticks),
+    }
+}
+
+fn judge_branch(
+    graph: &PlanGraph,
+    fleet: &Fleet,
+    kind: Kind,
+    cost: u64,
+    pair: PairId,
+    sides: &[Option<Side>],
+    ticks: &mut Ticks,
+) -> Option<NoWhy>
+    requires state { IsFleetState graph.now fleet.now }
+    requires sides { HasSides graph.now sides.now }
+    requires ticks { HasTicks graph.now ticks.old }
+    ensures word { IsJudged graph.now fleet.now cost kind sides.now (Branch pair) result }
+    ensures rows { KeepsRows ticks.old ticks.new }
+{
+    if !free(graph, fleet, sides, pair) {
+        return Some(NoWhy::Pair);
+    }
+    match kind {
+        Kind::Spent { least, .. } if !needed(graph, fleet, cost, least, pair, sides, ticks) => Some(
+            NoWhy::Needed,
+        ),
+        _ => None,
+    }
+}
+
+fn judge_force(
+    graph: &PlanGraph,
+    fleet: &Fleet,
+    pair: PairId,
+    side: Side,
+    cycle: &[PairId],
+    sides: &mut [Option<Side>],
+) -> Option<NoWhy>
+    requires state { IsFleetState graph.now fleet.now }
+    requires sides { HasSides graph.now sides.old }
+    ensures optimal { (cost : ℕ) → IsJudged graph.now fleet.now cost kind.Optimal sides.old (Force pair side cycle.now) result }
+    ensures spent { (cost least budget : ℕ) → IsJudged graph.now fleet.now cost (kind.Spent least budget) sides.old (Force pair side cycle.now) result }
+    ensures sides { sides.new ≡ sides.old }
+{
+    if !free(graph, fleet, sides, pair) {
+        return Some(NoWhy::Pair);
+    }
+    let place = pair.0 as usize;
+    sides[place] = Some(other(side));
+    let refuted = is_cycle(graph, fleet, sides, cycle);
+    sides[place] = None;
+    if refuted { None } else { Some(NoWhy::Cycle) }
+}
+
+fn judge_cyclic(
+    graph: &PlanGraph,
+    fleet: &Fleet,
+    cycle: &[PairId],
+    sides: &[Option<Side>],
+) -> Option<NoWhy>
+    requires state { IsFleetState graph.now fleet.now }
+    requires sides { HasSides graph.now sides.now }
+    ensures optimal { (cost : ℕ) → IsJudged graph.now fleet.now cost kind.Optimal sides.now (Cyclic cycle.now) result }
+    ensures spent { (cost least budget : ℕ) → IsJudged graph.now fleet.now cost (kind.Spent least budget) sides.now (Cyclic cycle.now) result }
+{
+    if is_cycle(graph, fleet, sides, cycle) {
+        None
+    } else {
+        Some(NoWhy::Cycle)
+    }
+}
+
+fn judge_bound(
+    graph: &PlanGraph,
+    fleet: &Fleet,
+    cost: u64,
+    paths: &[CertPath],
+    sides: &[Option<Side>],
+) -> Option<NoWhy>
+    requires state { IsFleetState graph.now fleet.now }
+    requires sides { HasSides graph.now sides.now }
+    requires ascending { IsStrictlyIncreasing (map (λ p. p.robot) paths.now) }
+    ensures optimal { IsJudged graph.now fleet.now cost kind.Optimal sides.now (Bound paths.now) result }
+    ensures spent { (least budget : ℕ) → IsJudged graph.now fleet.now cost (kind.Spent least budget) sides.now (Bound paths.now) result }
+{
+    let Some(total) = total(graph, fleet, sides, paths) else {
+        return Some(NoWhy::Path);
+    };
+    if total < cost { Some(NoWhy::Sum) } else { None }
+}
+
+fn judge_leaf(
+    graph: &PlanGraph,
+    fleet: &Fleet,
+    kind: Kind,
+    cost: u64,
+    least: u64,
+    sides: &[Option<Side>],
+    ticks: &mut Ticks,
+) -> Option<NoWhy>
+    requires state { IsFleetState graph.now fleet.now }
+    requires sides { HasSides graph.now sides.now }
+    requires ticks { HasTicks graph.now ticks.old }
+    ensures word { IsJudged graph.now fleet.now cost kind sides.now (OpenLeaf least) result }
+    ensures rows { KeepsRows ticks.old ticks.new }
+{
+    match kind {
+        Kind::Spent { .. } if left_open(graph, fleet, cost, least, sides, ticks) => None,
+        _ => Some(NoWhy::Leaf),
+    }
+}
+
+/// Whether a search had to branch here.
+fn needed(
+    graph: &PlanGraph,
+    fleet: &Fleet,
+    cost: u64,
+    least: u64,
+    q: PairId,
+    sides: &[Option<Side>],
+    ticks: &mut Ticks,
+) -> bool
+    requires state { IsFleetState graph.now fleet.now }
+    requires sides { HasSides graph.now sides.now }
+    requires ticks { HasTicks graph.now ticks.old }
+    requires open { is_open graph.now fleet.now q.0 ≡ true }
+    requires pair { q.0 < length graph.now.pairs }
+    ensures needed { (way : List Decision) → Gives way sides.now → IsTrue result ↔ IsNeeded graph.now fleet.now cost least way q.0 }
+    ensures rows { KeepsRows ticks.old ticks.new }
+{
+    if !relax(graph, fleet, sides, ticks) {
+        return false;
+    }
+    let relaxed = end_sum(graph, ticks);
+    if cost <= relaxed || least < relaxed {
+        return false;
+    }
+    let pair = graph.pair(q);
+    if obeys(graph, fleet, ticks, pair, Side::Lower) {
+        return false;
+    }
+    !obeys(graph, fleet, ticks, pair, Side::Higher)
+}
+
+/// Whether a leaf may be left open with this number.
+fn left_open(
+    graph: &PlanGraph,
+    fleet: &Fleet,
+    cost: u64,
+    least: u64,
+    sides: &[Option<Side>],
+    ticks: &mut Ticks,
+) -> bool
+    requires state { IsFleetState graph.now fleet.now }
+    requires sides { HasSides graph.now sides.now }
+    requires ticks { HasTicks graph.now ticks.old }
+    ensures left { (way : List Decision) → Gives way sides.now → IsTrue result ↔ IsLeftOpen graph.now fleet.now cost way least }
+    ensures rows { KeepsRows ticks.old ticks.new }
+{
+    if cost <= least {
+        return false;
+    }
+    if !relax(graph, fleet, sides, ticks) {
+        return false;
+    }
+    if end_sum(graph, ticks) != least {
+        return false;
+    }
+    has_free(graph, fleet, sides)
+}
+
+/// Whether some pair is open and undecided.
+fn has_free(graph: &PlanGraph, fleet: &Fleet, sides: &[Option<Side>]) -> bool
+    requires state { IsFleetState graph.now fleet.now }
+    requires sides { HasSides graph.now sides.now }
+    ensures { IsTrue result ↔ ((q : ℕ) × (is_open graph.now fleet.now q ≡ true) × (decided sides.now q ≡ None)) }
+{
+    for number in 0..graph.pair_count() {
+        if free(graph, fleet, sides, PairId(number)) {
+            return true;
+        }
+    }
+    false
+}
+
+/// Whether ticks obey the edge of an open pair at a side.
+fn obeys(graph: &PlanGraph, fleet: &Fleet, ticks: &Ticks, pair: Pair, side: Side) -> bool
+    requires state { IsFleetState graph.now fleet.now }
+    requires ticks { HasTicks graph.now ticks.now }
+    requires bound { IsBelow (2 ^ 62) (ticks_of ticks.now) }
+    requires tail { IsVisit graph.now (next_visit (first_visit pair side)) }
+    requires head { IsVisit graph.now (second_visit pair side) }
+    ensures { IsTrue result ↔ ObeysSide fleet.now (ticks_of ticks.now) pair side }
+{
+    let _within = graph.robots();
+    let (first, second) = match side {
+        Side::Lower => (pair.lower, pair.higher),
+        Side::Higher => (pair.higher, pair.lower),
+    };
+    let tail = Visit {
+        robot: first.robot,
+        index: first.index + 1,
+    };
+    fleet.arrival_tick(second).is_some()
+        || tick_of(graph, ticks, tail) + duration(fleet, second) <= tick_of(graph, ticks, second)
+}
+
+fn other(side: Side) -> Side
+    ensures { result ≡ other side }
+{
+    match side {
+        Side::Lower => Side::Higher,
+        Side::Higher => Side::Lower,
+    }
+}

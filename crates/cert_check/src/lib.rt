@@ -1,0 +1,20 @@
+//! The checker of certificates: whether a tree shows that no lawful schedule costs less.
+//!
+//! It shares no code with schedules, ranks or the search: paths and cycles are followed pair by pair, and relaxed ticks
+//! are raised by plain rounds over all visits until a round changes nothing.
+#![tactic(auto)]
+
+mod check;
+mod cycle;
+mod edges;
+mod judge;
+pub mod laws;
+mod path;
+mod rounds;
+mod scratch;
+mod verdict;
+mod way;
+
+pub use check::{check_optimal, check_spent};
+pub use scratch::Scratch;
+pub use verdict::{NoWhy, Verdict};

@@ -1,0 +1,237 @@
+ghost use Rattle.std.specs.Prelude.{◌≡◌, ◌<◌, ◌≤◌, true, length, map, IfSome, IfNone, slice_index};
+ghost use Rattle.std.specs.Option.{option_map};
+ghost use Rattle.std.specs.List.Sorted.{IsStrictlyIncreasing};
+ghost use Rattle.fleet_base.specs.Order.{IsVisit, last_in};
+ghost use Rattle.fleet_base.specs.State.{arrived_count, duration_of};
+ghost use Rattle.fleet_base.specs.Rules.{IsFleetState};
+ghost use Rattle.cert_check.specs.Paths.{travel, walk_end, coming, start_tick, has_finished, finished_length, start_robot, path_length, total_length, ArePaths};
+ghost use Rattle.cert_check.specs.Sides.{order_by, HasSides, capped};
+ghost use Rattle.cert_check.specs.Judging.{TakesPath};
+
+use crate::edges::{find_edge, leads};
+use cert_tree::CertPath;
+use fleet_base::{Fleet, PairId, Side, Visit};
+use plan_graph::PlanGraph;
+
+/// How long the move to a visit lasts.
+pub(crate) fn duration(fleet: &Fleet, v: Visit) -> u64
+    requires robot { v.robot < length fleet.now.lasts }
+    requires index { v.index ≤ slice_index fleet.now.lasts v.robot }
+    requires delay { duration_of fleet.now v ≤ 1000001 }
+    ensures { result ≡ duration_of fleet.now v }
+{
+    1 + fleet.delay(v)
+}
+
+/// How long the moves of a robot last that lead from a visit on to a later one.
+fn moves(graph: &PlanGraph, fleet: &Fleet, from: Visit, to: u32) -> u64
+    requires state { IsFleetState graph.now fleet.now }
+    requires robot { from.robot < length graph.now.lasts }
+    requires to { to ≤ last_in graph.now from.robot }
+    ensures { result ≡ travel fleet.now from to }
+{
+    let _within = graph.robots();
+    let mut sum = 0;
+    for index in from.index..to {
+        let robot = from.robot;
+        sum += duration(
+            fleet,
+            Visit {
+                robot,
+                index: index + 1,
+            },
+        );
+    }
+    sum
+}
+
+/// Whether a robot has arrived at its last visit.
+fn finished(graph: &PlanGraph, fleet: &Fleet, robot: u32) -> bool
+    requires state { IsFleetState graph.now fleet.now }
+    requires robot { robot < length graph.now.lasts }
+    ensures { result ≡ has_finished graph.now fleet.now robot }
+{
+    fleet.arrived(robot) >= graph.last(robot)
+}
+
+/// The first visit of a robot that has not arrived.
+fn first_to_come(graph: &PlanGraph, fleet: &Fleet, robot: u32) -> Visit
+    requires state { IsFleetState graph.now fleet.now }
+    requires robot { robot < length graph.now.lasts }
+    requires going { arrived_count fleet.now robot ≤ last_in graph.now robot }
+    ensures value { result ≡ coming fleet.now robot }
+    ensures there { IsVisit graph.now result }
+{
+    let _within = graph.robots();
+    let _last = graph.last(robot);
+    Visit {
+        robot,
+        index: fleet.arrived(robot) + 1,
+    }
+}
+
+/// When the move to the first visit of a robot that has not arrived can end, other robots apart.
+fn earliest_end(graph: &PlanGraph, fleet: &Fleet, robot: u32) -> u64
+    requires state { IsFleetState graph.now fleet.now }
+    requires robot { robot < length graph.now.lasts }
+    requires going { arrived_count fleet.now robot ≤ last_in graph.now robot }
+    ensures { result ≡ start_tick fleet.now robot }
+{
+    let next = first_to_come(graph, fleet, robot);
+    let last = Visit {
+        robot,
+        index: fleet.arrived(robot),
+    };
+    let duration = duration(fleet, next);
+    match (fleet.release_tick(next), fleet.arrival_tick(last)) {
+        (Some(released), Some(arrived)) => {
+            let earliest = (released + duration).max(arrived + duration);
+            fleet.now().max(earliest)
+        }
+        _ => fleet.now() + duration,
+    }
+}
+
+/// The robot on which a path for a robot begins.
+fn first_robot(
+    graph: &PlanGraph,
+    fleet: &Fleet,
+    sides: &[Option<Side>],
+    robot: u32,
+    pairs: &[PairId],
+) -> u32
+    requires state { IsFleetState graph.now fleet.now }
+    requires sides { HasSides graph.now sides.now }
+    requires robot { robot < length graph.now.lasts }
+    ensures value { result ≡ start_robot graph.now (order_by graph.now fleet.now sides.now) robot pairs.now }
+    ensures there { result < length graph.now.lasts }
+{
+    if pairs.is_empty() {
+        return robot;
+    }
+    match find_edge(graph, fleet, sides, pairs[0]) {
+        Some(first) => first.tail.robot,
+        None => robot,
+    }
+}
+
+/// The tick at which a walk ends that is at a visit at a tick, goes by these pairs and ends at the last visit of a robot.
+/// Sums stay at the greatest number.
+fn walk(
+    graph: &PlanGraph,
+    fleet: &Fleet,
+    sides: &[Option<Side>],
+    robot: u32,
+    pairs: &[PairId],
+    from: Visit,
+    start: u64,
+) -> Option<u64>
+    requires state { IsFleetState graph.now fleet.now }
+    requires sides { HasSides graph.now sides.now }
+    requires robot { robot < length graph.now.lasts }
+    requires from { from.robot < length graph.now.lasts }
+    ensures { result ≡ option_map capped (walk_end graph.now fleet.now (order_by graph.now fleet.now sides.now) robot from start pairs.now) }
+{
+    let mut at = from;
+    let mut tick = start;
+    for q in pairs {
+        let Some(next) = find_edge(graph, fleet, sides, *q) else {
+            return None;
+        };
+        if !leads(graph, at, next.tail) {
+            return None;
+        }
+        let along = moves(graph, fleet, at, next.tail.index);
+        let across = duration(fleet, next.head);
+        tick = tick.saturating_add(along).saturating_add(across);
+        at = next.head;
+    }
+    if at.robot != robot {
+        return None;
+    }
+    Some(tick.saturating_add(moves(graph, fleet, at, graph.last(robot))))
+}
+
+/// The length of a path for a robot, if these pairs are one. It stays at the greatest number, since a path may go round a
+/// cycle.
+fn length_of(
+    graph: &PlanGraph,
+    fleet: &Fleet,
+    sides: &[Option<Side>],
+    robot: u32,
+    pairs: &[PairId],
+) -> Option<u64>
+    requires state { IsFleetState graph.now fleet.now }
+    requires sides { HasSides graph.now sides.now }
+    requires robot { robot < length graph.now.lasts }
+    ensures { result ≡ option_map capped (path_length graph.now fleet.now (order_by graph.now fleet.now sides.now) robot pairs.now) }
+{
+    if finished(graph, fleet, robot) {
+        return finished_length(graph, fleet, robot, pairs);
+    }
+    let begins = first_robot(graph, fleet, sides, robot, pairs);
+    if finished(graph, fleet, begins) {
+        return None;
+    }
+    let from = first_to_come(graph, fleet, begins);
+    let start = earliest_end(graph, fleet, begins);
+    walk(graph, fleet, sides, robot, pairs, from, start)
+}
+
+/// The length of a path for a robot that has finished: when it arrived.
+fn finished_length(graph: &PlanGraph, fleet: &Fleet, robot: u32, pairs: &[PairId]) -> Option<u64>
+    requires state { IsFleetState graph.now fleet.now }
+    requires robot { robot < length graph.now.lasts }
+    requires finished { has_finished graph.now fleet.now robot ≡ true }
+    ensures { result ≡ option_map capped (finished_length graph.now fleet.now robot pairs.now) }
+{
+    if !pairs.is_empty() {
+        return None;
+    }
+    let index = graph.last(robot);
+    fleet.arrival_tick(Visit { robot, index })
+}
+
+/// The pairs that the paths list for a robot, where the paths of all earlier robots stand before this place, and how many
+/// of these paths are taken.
+fn pairs_at(paths: &[CertPath], place: usize, robot: u32) -> (&[PairId], usize)
+    requires { place ≤ length paths.now }
+    ensures { TakesPath paths.now place robot result.0.now result.1 }
+{
+    if place < paths.len() && paths[place].robot == robot {
+        (paths[place].pairs.as_slice(), place + 1)
+    } else {
+        (&[], place)
+    }
+}
+
+/// What the lengths of the paths of all robots add up to, if each is one and they name no other robot. The sum stays at the
+/// greatest number.
+pub(crate) fn total(
+    graph: &PlanGraph,
+    fleet: &Fleet,
+    sides: &[Option<Side>],
+    paths: &[CertPath],
+) -> Option<u64>
+    requires state { IsFleetState graph.now fleet.now }
+    requires sides { HasSides graph.now sides.now }
+    requires ascending { IsStrictlyIncreasing (map (λ p. p.robot) paths.now) }
+    ensures some { IfSome result (λ total. ArePaths graph.now fleet.now (order_by graph.now fleet.now sides.now) paths.now × (total ≡ capped (total_length graph.now fleet.now (order_by graph.now fleet.now sides.now) paths.now))) }
+    ensures none { IfNone result (ArePaths graph.now fleet.now (order_by graph.now fleet.now sides.now) paths.now → ⊥) }
+{
+    let mut total = 0_u64;
+    let mut place = 0;
+    for robot in 0..graph.robots() {
+        let (pairs, after) = pairs_at(paths, place, robot);
+        let Some(length) = length_of(graph, fleet, sides, robot, pairs) else {
+            return None;
+        };
+        total = total.saturating_add(length);
+        place = after;
+    }
+    if place == paths.len() {
+        Some(total)
+    } else {
+        None
+    }
+}

@@ -1,0 +1,193 @@
+ghost use Rattle.std.specs.Prelude.{◌≡◌, ◌<◌, ◌≤◌, ◌+◌, ◌*◌, ◌^◌, ◌↔◌, true, false, ℕ, List, length, map, IsTrue, slice_index};
+ghost use Rattle.fleet_base.specs.declared.geometry.Visit.{Visit};
+ghost use Rattle.fleet_base.specs.Lists.{row_of};
+ghost use Rattle.fleet_base.specs.Order.{IsVisit, IsSorted, IsCyclic, last_in};
+ghost use Rattle.fleet_base.specs.State.{duration_of, arrived_count};
+ghost use Rattle.fleet_base.specs.Rules.{IsFleetState};
+ghost use Rattle.fleet_base.specs.Schedule.{IsLeastSchedule, end_sum_of};
+ghost use Rattle.cert_check.specs.Paths.{edge_in};
+ghost use Rattle.cert_check.specs.Sides.{order_by, HasSides, capped};
+ghost use Rattle.cert_check.specs.Rounds.{floor, edge_bound, raised, ticks_of, HasTicks, IsLow, IsPast, IsBelow, HasRounds, IsSettled, KeepsRows, Raises, RaisesAll};
+
+use crate::edges::find_edge;
+use crate::path::duration;
+use fleet_base::{Fleet, Items, PairId, Side, Visit};
+use plan_graph::PlanGraph;
+
+/// For each robot a tick for each of its visits.
+pub(crate) type Ticks = Items<Items<u64>>;
+
+/// Raises all ticks to the least schedule that obeys the closed pairs and the decided ones, if there is one. Else these
+/// pairs have a cycle.
+pub(crate) fn relax(
+    graph: &PlanGraph,
+    fleet: &Fleet,
+    sides: &[Option<Side>],
+    ticks: &mut Ticks,
+) -> bool
+    requires state { IsFleetState graph.now fleet.now }
+    requires sides { HasSides graph.now sides.now }
+    requires ticks { HasTicks graph.now ticks.old }
+    ensures least { result ≡ true → IsLeastSchedule graph.now fleet.now (order_by graph.now fleet.now sides.now) (ticks_of ticks.new) }
+    ensures cyclic { result ≡ false → IsCyclic graph.now (order_by graph.now fleet.now sides.now) }
+    ensures bound { IsBelow (2 ^ 62) (ticks_of ticks.new) }
+    ensures rows { KeepsRows ticks.old ticks.new }
+{
+    let _within = graph.robots();
+    forget(ticks);
+    for _round in 0..graph.visit_count() + 1 {
+        if !raise_all(graph, fleet, sides, ticks) {
+            return true;
+        }
+    }
+    false
+}
+
+/// Sets all ticks to 0.
+fn forget(ticks: &mut Ticks)
+    ensures zero { (v : Visit) → ticks_of ticks.new v ≡ 0 }
+    ensures rows { KeepsRows ticks.old ticks.new }
+{
+    for robot in 0..ticks.as_slice().len() {
+        for index in 0..ticks.row(robot).len() {
+            ticks.set_in(robot, index, 0);
+        }
+    }
+}
+
+/// One round over all visits: whether a tick was raised.
+fn raise_all(graph: &PlanGraph, fleet: &Fleet, sides: &[Option<Side>], ticks: &mut Ticks) -> bool
+    requires state { IsFleetState graph.now fleet.now }
+    requires sides { HasSides graph.now sides.now }
+    requires ticks { HasTicks graph.now ticks.old }
+    requires bound { IsBelow (2 ^ 61) (ticks_of ticks.old) }
+    ensures raises { RaisesAll graph.now fleet.now (order_by graph.now fleet.now sides.now) (ticks_of ticks.old) (ticks_of ticks.new) result }
+    ensures rows { KeepsRows ticks.old ticks.new }
+{
+    let _within = graph.robots();
+    let mut raised = false;
+    for robot in 0..graph.robots() {
+        for index in 0..graph.last(robot) + 1 {
+            if raise(graph, fleet, sides, ticks, Visit { robot, index }) {
+                raised = true;
+            }
+        }
+    }
+    raised
+}
+
+/// Raises the tick of one visit to what is asked of it: whether it was below.
+fn raise(
+    graph: &PlanGraph,
+    fleet: &Fleet,
+    sides: &[Option<Side>],
+    ticks: &mut Ticks,
+    v: Visit,
+) -> bool
+    requires state { IsFleetState graph.now fleet.now }
+    requires sides { HasSides graph.now sides.now }
+    requires ticks { HasTicks graph.now ticks.old }
+    requires there { IsVisit graph.now v }
+    requires bound { IsBelow (2 ^ 62) (ticks_of ticks.old) }
+    ensures raises { Raises graph.now fleet.now (order_by graph.now fleet.now sides.now) (ticks_of ticks.old) (ticks_of ticks.new) v result }
+    ensures rows { KeepsRows ticks.old ticks.new }
+{
+    let tick = asked_of(graph, fleet, sides, ticks, v);
+    let robot = v.robot as usize;
+    let index = v.index as usize;
+    if tick <= ticks.row(robot)[index] {
+        return false;
+    }
+    ticks.set_in(robot, index, tick);
+    true
+}
+
+/// The least tick that is asked of a visit.
+fn asked_of(
+    graph: &PlanGraph,
+    fleet: &Fleet,
+    sides: &[Option<Side>],
+    ticks: &Ticks,
+    v: Visit,
+) -> u64
+    requires state { IsFleetState graph.now fleet.now }
+    requires sides { HasSides graph.now sides.now }
+    requires ticks { HasTicks graph.now ticks.now }
+    requires there { IsVisit graph.now v }
+    requires bound { IsBelow (2 ^ 62) (ticks_of ticks.now) }
+    ensures { result ≡ raised graph.now fleet.now (order_by graph.now fleet.now sides.now) (ticks_of ticks.now) v }
+{
+    if let Some(tick) = fleet.arrival_tick(v) {
+        return tick;
+    }
+    let mut tick = earliest(fleet, v);
+    if v.index > 0 {
+        let duration = duration(fleet, v);
+        tick = tick.max(ticks.row(v.robot as usize)[v.index as usize - 1] + duration);
+    }
+    for q in graph.pairs_of(v) {
+        tick = tick.max(asked_by(graph, fleet, sides, ticks, v, *q));
+    }
+    tick
+}
+
+/// The earliest end of the move to a visit, all edges apart.
+fn earliest(fleet: &Fleet, v: Visit) -> u64
+    requires robot { v.robot < length fleet.now.lasts }
+    requires index { v.index ≤ slice_index fleet.now.lasts v.robot }
+    requires delay { duration_of fleet.now v ≤ 1000001 }
+    requires clock { fleet.now.clock ≤ 10 ^ 12 }
+    requires release { floor fleet.now v ≤ 2 ^ 62 }
+    ensures { result ≡ floor fleet.now v }
+{
+    let duration = duration(fleet, v);
+    match fleet.release_tick(v) {
+        Some(released) => fleet.now().max(released + duration),
+        None => fleet.now() + duration,
+    }
+}
+
+/// What the edge of a pair asks of a visit.
+fn asked_by(
+    graph: &PlanGraph,
+    fleet: &Fleet,
+    sides: &[Option<Side>],
+    ticks: &Ticks,
+    v: Visit,
+    q: PairId,
+) -> u64
+    requires state { IsFleetState graph.now fleet.now }
+    requires sides { HasSides graph.now sides.now }
+    requires ticks { HasTicks graph.now ticks.now }
+    requires there { IsVisit graph.now v }
+    requires bound { IsBelow (2 ^ 62) (ticks_of ticks.now) }
+    ensures { result ≡ edge_bound fleet.now (ticks_of ticks.now) v (edge_in graph.now (order_by graph.now fleet.now sides.now) q.0) }
+{
+    match find_edge(graph, fleet, sides, q) {
+        Some(edge) if edge.head == v => tick_of(graph, ticks, edge.tail) + duration(fleet, v),
+        _ => 0,
+    }
+}
+
+/// The tick of a visit.
+pub(crate) fn tick_of(graph: &PlanGraph, ticks: &Ticks, v: Visit) -> u64
+    requires ticks { HasTicks graph.now ticks.now }
+    requires there { IsVisit graph.now v }
+    ensures { result ≡ ticks_of ticks.now v }
+{
+    ticks.row(v.robot as usize)[v.index as usize]
+}
+
+/// The sum of the ticks of the robots' last visits. It stays at the greatest number.
+pub(crate) fn end_sum(graph: &PlanGraph, ticks: &Ticks) -> u64
+    requires ticks { HasTicks graph.now ticks.now }
+    ensures { result ≡ capped (end_sum_of graph.now (ticks_of ticks.now)) }
+{
+    let _within = graph.robots();
+    let mut sum = 0_u64;
+    for robot in 0..graph.robots() {
+        let index = graph.last(robot);
+        sum = sum.saturating_add(tick_of(graph, ticks, Visit { robot, index }));
+    }
+    sum
+}
