@@ -1,0 +1,9 @@
+pub mod Agreeing
+pub mod Entering
+pub mod Following
+pub mod Looks
+pub mod OneImage
+pub mod OneState
+pub mod Opens
+pub mod Passing
+pub mod Replays

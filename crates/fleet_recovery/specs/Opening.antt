@@ -1,0 +1,32 @@
+-- What the opening of a journal leaves at each moment, and at its end.
+use Rattle.std.specs.Prelude.{ℕ, ◌≤◌, List, length}
+use Rattle.fleet_base.specs.declared.geometry.PlannedVisit.{PlannedVisit}
+use Rattle.fleet_base.specs.State.{FleetState}
+use Rattle.station_api.specs.Scene.{Scene, side_of, other_of}
+use Rattle.station_api.specs.Clock.{Clock, IsKept}
+use Rattle.journal_frame.specs.declared.header.HeaderParts.{HeaderParts}
+use Rattle.fleet_journal.specs.Sides.{IsBlankJournal}
+use Rattle.fleet_journal.specs.Standing.{Standing}
+use Rattle.fleet_journal.specs.Journal.{Stands}
+use Rattle.fleet_recovery.specs.Papers.{Papers}
+use Rattle.fleet_recovery.specs.Image.{MeansState, StandsFor}
+
+-- A moment of an opening: what a stop leaves is what one might have left before, or it stands for the state for which the sides
+-- stood that the station read. It is blank only if those were.
+pub data IsOpening (routes : List (List PlannedVisit)) (papers : Papers) (old : Clock) (c : Scene) : Type 0 where
+  before : old.may_leave c → IsOpening routes papers old c
+  during : (x : FleetState) → StandsFor routes papers old.seen x → StandsFor routes papers c x → (IsBlankJournal c → IsBlankJournal old.seen) → IsOpening routes papers old c
+
+-- the sides stand for a state for which those stood that were seen
+abbrev pub StandsStill : List (List PlannedVisit) → Papers → Scene → Scene → Type 0
+StandsStill routes papers seen c = (x : FleetState) × StandsFor routes papers seen x × StandsFor routes papers c x
+
+-- A station and a journal at rest: a stop leaves what the station reads, these sides stand for the state, the journal is that of the
+-- side taken and stands at its closed gate, and the other side has at most one byte.
+pub record IsAtRest (routes : List (List PlannedVisit)) (papers : Papers) (journal : Standing) (x : FleetState) (clock : Clock) : Type 0 where
+  pub kept : IsKept clock
+  pub header : HeaderParts
+  pub entries : List (List ℕ)
+  pub stands : Stands journal header entries clock.seen
+  pub means : MeansState routes papers header entries x
+  pub beside : length (side_of (other_of journal.side) clock.seen) ≤ 1
