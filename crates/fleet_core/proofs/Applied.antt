@@ -44,7 +44,7 @@ switched_heard g x (Arrive i k tick) switched s accepted few none choice =
 switched_heard g x (Delay i k extra tick) switched s accepted few may choice = delay_heard g x i k extra tick switched s (accepted_delay x i k extra tick accepted) few choice
 
 -- where no pair is turned nothing is asked
-may_switch_none : (report : Report) → MaySwitch report []
+pub may_switch_none : (report : Report) → MaySwitch report []
 may_switch_none (Arrive i k tick) = refl
 may_switch_none (Delay i k extra tick) = tt
 

@@ -5,3 +5,4 @@ pub mod Applied
 pub mod Starting
 pub mod Switching
 pub mod Prepared
+pub mod InPlace

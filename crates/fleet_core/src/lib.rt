@@ -1,6 +1,7 @@
 //! What a report does to a fleet: its judgement, the entry of an accepted one, and the step that the entry makes.
 #![tactic(auto)]
 
+mod advancing;
 mod applying;
 mod entry;
 mod first;
@@ -10,6 +11,7 @@ pub mod laws;
 mod opening;
 mod preparing;
 
+pub use advancing::advance;
 pub use applying::apply;
 pub use entry::{ChoiceWhy, Entry, PrepareError};
 pub use first::first_state;
