@@ -1,15 +1,13 @@
 -- When an entry is a step from a state.
-use Rattle.std.proofs.Common.{◌≡◌, ◌↔◌, ℕ, ◌^◌, ◌<◌, Bool, false, IsTrue, List, sym, subst}
+use Rattle.std.proofs.Common.{◌≡◌, ◌↔◌, ℕ, ◌^◌, ◌<◌, Bool, false, IsTrue, List, subst}
 use Rattle.fleet_base.specs.declared.geometry.Visit.{Visit}
 use Rattle.fleet_base.specs.declared.order.PairId.{PairId}
 use Rattle.fleet_base.specs.declared.report.Report.{Report}
 use Rattle.fleet_base.specs.Order.{Graph}
 use Rattle.fleet_base.specs.State.{FleetState}
-use Rattle.fleet_base.specs.Rules.{IsFleetState}
 use Rattle.fleet_core.specs.declared.judging.Judged.TheVariants.{Accept}
 use Rattle.fleet_core.specs.Judgement.{judgement_of}
 use Rattle.fleet_core.specs.Step.{Step}
-use Rattle.fleet_core.proofs.Delaying.{step_keeps_rules}
 use Rattle.journal_frame.specs.Entries.{Accepted, IsEntry}
 use Rattle.journal_frame.proofs.EntryLaws.{entry_one}
 use Rattle.fleet_recovery.specs.Entries.{MayName, Enters}
@@ -34,7 +32,3 @@ module _ (g : Graph) (x : FleetState) (report : Report) (switched : List PairId)
 
   pub not_accepted : ¬ ((judgement_of x report ≡ Accept) × (x.count < 2 ^ 62)) → EntersNowhere g x report switched
   not_accepted never payload x' is enters = let step = (steps payload x' is enters).1.1 in never (step.proposal.accepted, step.proposal.count)
-
-  -- a step that was made keeps the rules
-  pub made_keeps : (releases : List Visit) (x' made : FleetState) → IsFleetState g x → Step g x report switched releases x' → made ≡ x' → IsFleetState g made
-  made_keeps releases x' made s step is = subst (IsFleetState g) (sym is) (step_keeps_rules g x report switched releases x' s step)

@@ -38,6 +38,10 @@ refuses_also m n P Q (recover_error.Journal journal_error.Memory) same more is =
 refuses_also m n P Q (recover_error.OtherPlan at) same more is = absurd is
 refuses_also m n P Q recover_error.Memory same more is = tt
 
+-- a bad record is such a refusal
+pub bad_refuses : (n : ℕ) (P : Type 0) (e : RecoverError) → e ≡ recover_error.Journal (journal_error.BadRecord n) → P → EnterRefuses n P e
+bad_refuses n P e is holds = subst (EnterRefuses n P) (sym is) (refl, holds)
+
 -- the last payload fits too
 last_fits : (entries : List (List ℕ)) (payload : List ℕ) → AllByRecursion Fits (entries ++ payload ∷ []) → Fits payload
 last_fits [] payload all = all.0

@@ -1,11 +1,12 @@
 // The entries of a journal, one after another.
-ghost use Rattle.std.specs.Prelude.{ℕ, ◌≡◌, ◌+◌, ◌<◌, ◌^◌, ◌↔◌, [], List, drop, IsTrue, IfOk, OnOk, IfErr, IsErrOf};
+ghost use Rattle.std.specs.Prelude.{ℕ, ◌≡◌, ◌+◌, ◌<◌, ◌^◌, ◌↔◌, [], List, drop, IsTrue, IfOk, OnOk, IfErr, OnErr, IsErrOf};
 ghost use Rattle.fleet_base.specs.Rules.{IsFleetState};
 ghost use Rattle.station_api.specs.Scene.{side_of};
 ghost use Rattle.station_api.specs.Disk.{IsQuiet};
 ghost use Rattle.station_api.specs.Causes.{Counted, IsToBlame};
 ghost use Rattle.journal_frame.specs.declared.header.HeaderParts.{HeaderParts as Parts};
 ghost use Rattle.journal_frame.specs.Frames.{IsBadRecord};
+ghost use Rattle.release_rule.specs.Releasing.{IsOutFor};
 ghost use Rattle.fleet_core.specs.declared.judging.Judged.TheVariants.{Accept};
 ghost use Rattle.fleet_core.specs.Judgement.{judgement_of};
 ghost use Rattle.fleet_journal.specs.declared.error.JournalError.TheVariants.{Station as StationFault, BadRecord as IsBad};
@@ -17,9 +18,10 @@ ghost use Rattle.fleet_recovery.specs.Replaying.{EnterRefuses, ReplayRefuses, En
 
 use crate::RecoverError;
 use fleet_base::{Fleet, PairId, PairList, Report};
-use fleet_core::{Judged, PrepareError, apply, judge, prepare};
+use fleet_core::{Judged, advance, judge};
 use fleet_journal::{Journal, JournalError};
 use plan_graph::PlanGraph;
+use release_rule::Out;
 use station_api::Station;
 use std::alloc::Global;
 
@@ -46,32 +48,30 @@ fn bad_record(fleet: &Fleet) -> RecoverError
     RecoverError::Journal(JournalError::BadRecord { number })
 }
 
-/// Makes the step of an entry, if it is one from this state. After a refusal the state is as it was.
+/// Makes the step of an entry in place, if it is one from this state. It takes no memory, and after a refusal the state is
+/// as it was.
 fn enter(
-    alloc: Global,
     graph: &PlanGraph,
     fleet: &mut Fleet,
     report: &Report,
     switched: &PairList,
+    out: &mut Out,
 ) -> Result<(), RecoverError>
-    requires { IsFleetState graph.now fleet.old }
+    requires state { IsFleetState graph.now fleet.old }
+    requires out { IsOutFor graph.now out.old }
     ensures enters { OnOk result (EntersBy graph.now fleet.old report.now switched.now fleet.new) }
     ensures rules { OnOk result (IsFleetState graph.now fleet.new) }
     ensures count { OnOk result (fleet.new.count ≡ fleet.old.count + 1) }
-    ensures refused { IfErr result (EnterRefuses (fleet.old.count + 1) (EntersNowhere graph.now fleet.old report.now switched.now)) }
-    ensures only { IsErrOf result (RecoverError.Journal JournalError.Station) → ⊥ }
+    ensures refused { IfErr result (λ e. e ≡ OfJournal (IsBad (fleet.old.count + 1))) }
+    ensures nowhere { OnErr result (EntersNowhere graph.now fleet.old report.now switched.now) }
+    ensures stays { OnErr result (fleet.new ≡ fleet.old) }
+    ensures fits { IsOutFor graph.now out.new }
 {
     if !may_name(switched.as_slice()) || !accepts(graph, fleet, report) {
         return Err(bad_record(fleet));
     }
-    match prepare(alloc, graph, fleet, report, switched) {
-        Ok(entry) => {
-            apply(fleet, &entry);
-            Ok(())
-        }
-        Err(PrepareError::ChoiceRefused { .. }) => Err(bad_record(fleet)),
-        Err(PrepareError::Memory) => Err(RecoverError::Memory),
-    }
+    advance(graph, fleet, report, out);
+    Ok(())
 }
 
 /// Reads the entry at the journal's gate. A bad record is that of the report with this number.
@@ -100,14 +100,16 @@ fn read_on<T: Station>(
 }
 
 /// Reads the entry at the journal's gate and makes its step; answers false where the gate is closed.
-fn advance<T: Station>(
+fn enter_next<T: Station>(
     alloc: Global,
     station: &mut T,
     graph: &PlanGraph,
     fleet: &mut Fleet,
     journal: &mut Journal,
+    out: &mut Out,
 ) -> Result<bool, RecoverError>
-    requires { IsFleetState graph.now fleet.old }
+    requires state { IsFleetState graph.now fleet.old }
+    requires out { IsOutFor graph.now out.old }
     ensures goes_on { T.tells → (header : Parts) (entries : List (List ℕ)) → HasRead journal.old header entries (T.clock station.old).seen →
         IfOk result (GoesOn graph.now fleet.old fleet.new journal.new header entries (T.clock station.old).seen) }
     ensures refused { IfErr result (EnterRefuses (fleet.old.count + 1) (T.tells → (header : Parts) (entries : List (List ℕ)) → HasRead journal.old header entries (T.clock station.old).seen →
@@ -115,6 +117,7 @@ fn advance<T: Station>(
     ensures rules { OnOk result (IsFleetState graph.now fleet.new) }
     ensures count { IfOk result (λ more. IsTrue more → fleet.new.count ≡ fleet.old.count + 1) }
     ensures stays { IfOk result (λ more. ¬ IsTrue more → fleet.new ≡ fleet.old) }
+    ensures fits { IsOutFor graph.now out.new }
     ensures side { journal.new.side ≡ journal.old.side }
     ensures quiet { T.tells → IsQuiet (T.clock station.old) (T.clock station.new) }
     ensures counted { Counted (T.counts station.old) (T.counts station.new) }
@@ -124,7 +127,7 @@ fn advance<T: Station>(
     let Some((report, switched)) = read_on(alloc, station, journal, number)? else {
         return Ok(false);
     };
-    enter(alloc, graph, fleet, &report, &switched)?;
+    enter(graph, fleet, &report, &switched, out)?;
     Ok(true)
 }
 
@@ -147,9 +150,10 @@ pub fn replay<T: Station>(
     ensures counted { Counted (T.counts station.old) (T.counts station.new) }
     ensures cause { IsErrOf result (RecoverError.Journal JournalError.Station) → IsToBlame (T.counts station.old) (T.counts station.new) }
 {
+    let mut out = Out::new(alloc, graph)?;
     let mut more = true;
     while more {
-        more = advance(alloc, station, graph, fleet, journal)?;
+        more = enter_next(alloc, station, graph, fleet, journal, &mut out)?;
     }
     Ok(())
 }

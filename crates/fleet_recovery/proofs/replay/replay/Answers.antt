@@ -14,22 +14,23 @@ smaller false more before after is_more one same few = absurd cc
 pub returns-in_err-more-clause-refused : goal.returns-in_err-more-clause-refused
 returns-in_err-more-clause-refused g c =
     let kept = c.loop-more.invariant in
-    told_on _ c.from_residual.result c.in_err-more.field-0.0 _ c.from_residual.ensures.1
+    told_on _ c.from_residual-in_err-more.result c.in_err-more.field-0.0 _ c.from_residual-in_err-more.ensures.1
     (entry_refuses _ _ _ c.in_err-more.field-0.0 c.in_err-more.ensures.refused
     (λ stuck told. stuck_there c.args.graph.now c.args.fleet.now c.loop-more.fleet c.args.journal.now c.loop-more.journal _ _ (kept.quiet told).seen c.loop-more.more c.loop-more-test.true (kept.leads told) kept.side (stuck told)))
 
 pub loop-more-smaller : goal.loop-more-smaller
 loop-more-smaller g c =
-    smaller c.loop-more.more c.in_ok-more.more c.loop-more.fleet.count c.advance.new.fleet.count c.loop-more-test.true c.in_ok-more.ensures.count (λ none. ap (λ (x : FleetState). x.count) (c.in_ok-more.ensures.stays none)) (let rules = c.in_ok-more.ensures.rules in rules.count)
+    smaller c.loop-more.more c.in_ok-more.more c.loop-more.fleet.count c.enter_next.new.fleet.count c.loop-more-test.true c.in_ok-more.ensures.count (λ none. ap (λ (x : FleetState). x.count) (c.in_ok-more.ensures.stays none)) (let rules = c.in_ok-more.ensures.rules in rules.count)
 
 pub loop-more-preserved : goal.loop-more-preserved
 loop-more-preserved g c =
     let kept = c.loop-more.invariant in
     record {
       rules = c.in_ok-more.ensures.rules;
-      side = c.advance.ensures.side ∙ kept.side;
-      quiet = λ told. quiet_on _ _ _ (kept.quiet told) (c.advance.ensures.quiet told);
-      counted = counted_on _ _ _ kept.counted c.advance.ensures.counted;
+      room = c.enter_next.ensures.fits;
+      side = c.enter_next.ensures.side ∙ kept.side;
+      quiet = λ told. quiet_on _ _ _ (kept.quiet told) (c.enter_next.ensures.quiet told);
+      counted = counted_on _ _ _ kept.counted c.enter_next.ensures.counted;
       leads = λ told. led_on c.args.graph.now c.args.fleet.now c.loop-more.fleet c.args.journal.now c.loop-more.journal _ _ (kept.quiet told).seen c.loop-more.more c.loop-more-test.true (kept.leads told) _ _ c.in_ok-more.more (c.in_ok-more.ensures.goes_on told);
     }
 
