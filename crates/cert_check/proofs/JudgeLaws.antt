@@ -1,5 +1,5 @@
 -- What is judged by the sides is judged by the decisions that give them.
-use Rattle.std.proofs.Common.{ℕ, ◌≡◌, ◌+◌, ◌^◌, ◌<◌, ◌≤◌, ◌⊎◌, List, [], ◌∷◌, Some, None, Option, true, false, Bool, cond, refl, sym, ap, ◌∙◌, subst, inl, inr, arith, length, set, get_or}
+use Rattle.std.proofs.Common.{ℕ, ◌≡◌, ◌+◌, ◌<◌, ◌≤◌, ◌⊎◌, List, [], ◌∷◌, Some, None, Option, true, false, Bool, cond, refl, sym, ap, ◌∙◌, subst, inl, inr, arith, length, set, get_or}
 use Rattle.fleet_base.specs.declared.order.Side.TheVariants.{Lower, Higher}
 use Rattle.std.specs.Prelude.{IsTrue, not, slice_get, slice_set, zero, suc}
 use Rattle.std.proofs.lemmas.Bool.{false≢true, cases_eq, eq-eqb, ne_eqb}
@@ -21,7 +21,7 @@ use Rattle.cert_check.specs.declared.verdict.NoWhy.{NoWhy}
 use Rattle.cert_check.specs.declared.verdict.NoWhy.TheVariants.{Shape, Pair, Cycle, Path, Sum, Leaf, Needed}
 use Rattle.cert_check.specs.Decisions.{Decision, side_on, order_on, IsFree, other}
 use Rattle.cert_check.specs.Paths.{ArePaths, total_length}
-use Rattle.cert_check.specs.Sides.{decided, order_by, capped}
+use Rattle.cert_check.specs.Sides.{decided, order_by}
 use Rattle.cert_check.specs.Trees.{force_to, IsAcyclic, IsNeeded, IsLeftOpen}
 use Rattle.cert_check.proofs.Lawful.{listed}
 use Rattle.cert_check.proofs.Walks.{tail_there}
@@ -140,11 +140,11 @@ module _ (g : Graph) (x : FleetState) (sides : List (Option Side)) where
   bound_no_path paths none cost kind.Optimal way gives = (λ a. none (by way gives (λ o. ArePaths g x o paths) a), λ w lt f. bound_low g x cost way paths w lt f)
   bound_no_path paths none cost (kind.Spent least budget) way gives = (λ a. none (by way gives (λ o. ArePaths g x o paths) a), λ w lt f. bound_low g x cost way paths w lt f)
 
-  pub bound_short : (paths : List CertPath) (total cost : ℕ) → ArePaths g x (order_by g x sides) paths → total ≡ capped (total_length g x (order_by g x sides) paths) → total < cost → cost < 2 ^ 64 → (k : Kind) → IsJudged g x cost k sides (Bound paths) (Some Sum)
-  bound_short paths total cost are e lt fits kind.Optimal way gives = (on way gives (λ o. total_length g x o paths < cost) (omega (arith, e, lt, fits)), λ w l f. bound_mid g x cost way paths (on way gives (λ o. ArePaths g x o paths) are) w l f)
-  bound_short paths total cost are e lt fits (kind.Spent least budget) way gives = (on way gives (λ o. total_length g x o paths < cost) (omega (arith, e, lt, fits)), λ w l f. bound_mid g x cost way paths (on way gives (λ o. ArePaths g x o paths) are) w l f)
+  pub bound_short : (paths : List CertPath) (total cost : ℕ) → ArePaths g x (order_by g x sides) paths → total ≡ total_length g x (order_by g x sides) paths → total < cost → (k : Kind) → IsJudged g x cost k sides (Bound paths) (Some Sum)
+  bound_short paths total cost are e lt kind.Optimal way gives = (on way gives (λ o. total_length g x o paths < cost) (omega (arith, e, lt)), λ w l f. bound_mid g x cost way paths (on way gives (λ o. ArePaths g x o paths) are) w l f)
+  bound_short paths total cost are e lt (kind.Spent least budget) way gives = (on way gives (λ o. total_length g x o paths < cost) (omega (arith, e, lt)), λ w l f. bound_mid g x cost way paths (on way gives (λ o. ArePaths g x o paths) are) w l f)
 
-  pub bound_long : (paths : List CertPath) (total cost : ℕ) → ArePaths g x (order_by g x sides) paths → total ≡ capped (total_length g x (order_by g x sides) paths) → cost ≤ total → (k : Kind) → IsJudged g x cost k sides (Bound paths) None
+  pub bound_long : (paths : List CertPath) (total cost : ℕ) → ArePaths g x (order_by g x sides) paths → total ≡ total_length g x (order_by g x sides) paths → cost ≤ total → (k : Kind) → IsJudged g x cost k sides (Bound paths) None
   bound_long paths total cost are e le kind.Optimal way gives = ((on way gives (λ o. ArePaths g x o paths) are, on way gives (λ o. cost ≤ total_length g x o paths) (omega (arith, e, le))), tt)
   bound_long paths total cost are e le (kind.Spent least budget) way gives = ((on way gives (λ o. ArePaths g x o paths) are, on way gives (λ o. cost ≤ total_length g x o paths) (omega (arith, e, le))), tt)
 
@@ -237,9 +237,9 @@ module _ (g : Graph) (x : FleetState) (sides : List (Option Side)) where
     same_sum t way gives b = one_cost g x (order_by g x sides) (end_sum_of g s) (end_sum_of g t) (cost_of_least g x (order_by g x sides) s least) (cost_of_least g x (order_by g x sides) t (by way gives (λ o. IsLeastSchedule g x o t) b))
 
     -- a relaxed cost that is not below the cost, or more than what is left
-    pub dear_not_needed : (sum cost most : ℕ) → sum ≡ capped (end_sum_of g s) → sum < 2 ^ 64 → most < 2 ^ 64 → cost < 2 ^ 64 → (cost ≤ sum) ⊎ (most < sum) → (way : List Decision) (q : ℕ) → Gives way sides → IsNeeded g x cost most way q → ⊥
-    dear_not_needed sum cost most e fits fm fc (inl h) way q gives n = let same = same_sum n.ticks way gives n.schedule in omega (arith, e, fits, fm, fc, h, same, n.below, n.within)
-    dear_not_needed sum cost most e fits fm fc (inr h) way q gives n = let same = same_sum n.ticks way gives n.schedule in omega (arith, e, fits, fm, fc, h, same, n.below, n.within)
+    pub dear_not_needed : (sum cost most : ℕ) → sum ≡ end_sum_of g s → (cost ≤ sum) ⊎ (most < sum) → (way : List Decision) (q : ℕ) → Gives way sides → IsNeeded g x cost most way q → ⊥
+    dear_not_needed sum cost most e (inl h) way q gives n = let same = same_sum n.ticks way gives n.schedule in omega (arith, e, h, same, n.below, n.within)
+    dear_not_needed sum cost most e (inr h) way q gives n = let same = same_sum n.ticks way gives n.schedule in omega (arith, e, h, same, n.below, n.within)
 
     -- where the edge of one side is obeyed, no branch is needed
     pub obeyed_not_needed : (pair : PairOf) (d : Side) (q : ℕ) → slice_get g.pairs q ≡ Some pair → is_open g x q ≡ true → ObeysSide x s pair d → (cost most : ℕ) (way : List Decision) → Gives way sides → IsNeeded g x cost most way q → ⊥

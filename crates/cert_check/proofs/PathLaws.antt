@@ -1,7 +1,6 @@
 -- The paths of a Bound, robot by robot.
-use Rattle.std.proofs.Common.{ℕ, suc, zero, ◌≡◌, ◌≢◌, ◌+◌, ◌-◌, ◌^◌, ◌<◌, ◌≤◌, ◌⊎◌, min, List, [], ◌∷◌, Some, None, Option, cond, refl, sym, ap, ◌∙◌, subst, inl, inr, arith, length, map, drop, get_or}
+use Rattle.std.proofs.Common.{ℕ, suc, zero, ◌≡◌, ◌≢◌, ◌+◌, ◌-◌, ◌*◌, ◌^◌, ◌<◌, ◌≤◌, ◌⊎◌, List, [], ◌∷◌, Some, None, Option, cond, refl, sym, ap, ◌∙◌, subst, inl, inr, arith, length, map, drop, get_or}
 use Rattle.std.specs.Prelude.{slice_get, sum_by, unwrap_or, IsSome}
-use Rattle.std.specs.Option.{option_map}
 use Rattle.std.proofs.lemmas.Option.{slice_get-get_or}
 use Rattle.std.specs.List.{range_with_len}
 use Rattle.std.specs.List.Sorted.{IsStrictlyIncreasing}
@@ -12,7 +11,6 @@ use Rattle.fleet_base.specs.Order.{Graph}
 use Rattle.fleet_base.specs.State.{FleetState}
 use Rattle.cert_tree.specs.declared.node.CertPath.{CertPath}
 use Rattle.cert_check.specs.Paths.{path_for, length_for, path_length, ArePaths, total_length}
-use Rattle.cert_check.specs.Sides.{capped}
 use Rattle.cert_check.specs.Judging.{TakesPath}
 use Rattle.cert_check.proofs.Walks.{sum_more}
 
@@ -115,22 +113,23 @@ take_path paths place robot after pairs up h (inr (none, ps, a)) = (
 -- so far all robots have a path, whose lengths add up to this
 pub record HasTotal (g : Graph) (x : FleetState) (order : ℕ → Option Side) (paths : List CertPath) (place robot total : ℕ) : Type 0 where
   pub taken : HasTaken paths place robot
-  pub sum : total ≡ capped (sum_by (λ i. unwrap_or (length_for g x order paths i) 0) (range_with_len 0 robot))
+  pub sum : total ≡ sum_by (λ i. unwrap_or (length_for g x order paths i) 0) (range_with_len 0 robot)
+  pub short : total ≤ robot * 2 ^ 118
   pub each : (i : ℕ) → i < robot → IsSome (length_for g x order paths i)
 
 module _ (g : Graph) (x : FleetState) (order : ℕ → Option Side) (paths : List CertPath) where
   pub no_total : HasTotal g x order paths 0 0 0
-  no_total = record { taken = nothing_taken paths; sum = refl; each = λ i lt. absurd (omega (arith, lt)) }
+  no_total = record { taken = nothing_taken paths; sum = refl; short = omega arith; each = λ i lt. absurd (omega (arith, lt)) }
 
-  length_is : (robot n : ℕ) (pairs : List PairId) → pairs ≡ path_for paths robot → Some n ≡ option_map capped (path_length g x order robot pairs) → (IsSome (length_for g x order paths robot)) × (n ≡ capped (unwrap_or (length_for g x order paths robot) 0))
-  length_is robot n pairs e is = go (length_for g x order paths robot) (is ∙ ap (λ ps. option_map capped (path_length g x order robot ps)) e)
+  length_is : (robot n : ℕ) (pairs : List PairId) → pairs ≡ path_for paths robot → Some n ≡ path_length g x order robot pairs → (IsSome (length_for g x order paths robot)) × (n ≡ unwrap_or (length_for g x order paths robot) 0)
+  length_is robot n pairs e is = go (length_for g x order paths robot) (is ∙ ap (λ ps. path_length g x order robot ps) e)
     where
-      go : (o : Option ℕ) → Some n ≡ option_map capped o → IsSome o × (n ≡ capped (unwrap_or o 0))
+      go : (o : Option ℕ) → Some n ≡ o → IsSome o × (n ≡ unwrap_or o 0)
       go None f = cc
-      go (Some m) f = (refl, let z : n ≡ capped m = cc in z)
+      go (Some m) f = (refl, let z : n ≡ m = cc in z)
 
-  pub total_more : (place robot after total later n : ℕ) (pairs : List PairId) → IsStrictlyIncreasing (robots_of paths) → HasTotal g x order paths place robot total → TakesPath paths place robot pairs after → Some n ≡ option_map capped (path_length g x order robot pairs) → later ≡ min (total + n) (2 ^ 64 - 1) → HasTotal g x order paths after (robot + 1) later
-  total_more place robot after total later n pairs up h takes is e =
+  pub total_more : (place robot after total later n : ℕ) (pairs : List PairId) → IsStrictlyIncreasing (robots_of paths) → HasTotal g x order paths place robot total → TakesPath paths place robot pairs after → Some n ≡ path_length g x order robot pairs → n < 2 ^ 118 → later ≡ total + n → HasTotal g x order paths after (robot + 1) later
+  total_more place robot after total later n pairs up h takes is few e =
       let t = take_path paths place robot after pairs up h.taken takes in
       let l = length_is robot n pairs t.0 is in
       let f : ℕ → ℕ = λ i. unwrap_or (length_for g x order paths i) 0 in
@@ -140,6 +139,7 @@ module _ (g : Graph) (x : FleetState) (order : ℕ → Option Side) (paths : Lis
       record {
         taken = t.1;
         sum = omega (arith, h.sum, l.1, e, more, at, len);
+        short = omega (arith, h.short, few, e);
         each = λ i lt. go i lt (cases_eq i robot) l.0;
       }
     where
@@ -147,22 +147,22 @@ module _ (g : Graph) (x : FleetState) (order : ℕ → Option Side) (paths : Lis
       go i lt (inl s) k = subst (λ r. IsSome (length_for g x order paths r)) (sym s) k
       go i lt (inr m) k = h.each i (omega (arith, lt, m))
 
-  pub no_length : (place robot after total : ℕ) (pairs : List PairId) → IsStrictlyIncreasing (robots_of paths) → HasTotal g x order paths place robot total → TakesPath paths place robot pairs after → None ≡ option_map capped (path_length g x order robot pairs) → robot < length g.lasts → ArePaths g x order paths → ⊥
+  pub no_length : (place robot after total : ℕ) (pairs : List PairId) → IsStrictlyIncreasing (robots_of paths) → HasTotal g x order paths place robot total → TakesPath paths place robot pairs after → None ≡ path_length g x order robot pairs → robot < length g.lasts → ArePaths g x order paths → ⊥
   no_length place robot after total pairs up h takes is lt are =
       let t = take_path paths place robot after pairs up h.taken takes in
-      go (length_for g x order paths robot) (is ∙ ap (λ ps. option_map capped (path_length g x order robot ps)) t.0) (are.each robot lt)
+      go (length_for g x order paths robot) (is ∙ ap (λ ps. path_length g x order robot ps) t.0) (are.each robot lt)
     where
-      go : (o : Option ℕ) → None ≡ option_map capped o → IsSome o → ⊥
+      go : (o : Option ℕ) → None ≡ o → IsSome o → ⊥
       go None f k = cc
       go (Some m) f k = cc
 
-  pub all_taken : (place robot total : ℕ) → HasTotal g x order paths place robot total → robot ≡ length g.lasts → place ≡ length paths → ArePaths g x order paths × (total ≡ capped (total_length g x order paths))
+  pub all_taken : (place robot total : ℕ) → HasTotal g x order paths place robot total → robot ≡ length g.lasts → place ≡ length paths → ArePaths g x order paths × (total ≡ total_length g x order paths)
   all_taken place robot total h e all = (
     record {
       known = λ k d lt. omega (arith, e, h.taken.earlier k (get_or paths k d) (omega (arith, lt, all)) (slice_get-get_or paths k d lt));
       each = λ i lt. h.each i (omega (arith, lt, e));
     },
-    h.sum ∙ ap (λ n. capped (sum_by (λ i. unwrap_or (length_for g x order paths i) 0) (range_with_len 0 n))) (let z : robot ≡ length g.lasts - 0 = omega (arith, e) in z),
+    h.sum ∙ ap (λ n. sum_by (λ i. unwrap_or (length_for g x order paths i) 0) (range_with_len 0 n)) (let z : robot ≡ length g.lasts - 0 = omega (arith, e) in z),
   )
 
   pub not_all_taken : (place robot total : ℕ) → HasTotal g x order paths place robot total → robot ≡ length g.lasts → (place ≡ length paths → ⊥) → ArePaths g x order paths → ⊥

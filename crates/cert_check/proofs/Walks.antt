@@ -1,5 +1,5 @@
 -- Edges as they are computed, and how long the moves along a robot last.
-use Rattle.std.proofs.Common.{ℕ, suc, zero, ◌≡◌, ◌+◌, ◌-◌, ◌^◌, ◌≤◌, min, [], Some, Option, true, false, Bool, refl, sym, ap, ◌∙◌, subst, arith}
+use Rattle.std.proofs.Common.{ℕ, suc, zero, ◌≡◌, ◌+◌, ◌-◌, ◌≤◌, [], Some, Option, true, false, Bool, refl, sym, ap, ◌∙◌, subst, arith}
 use Rattle.std.specs.Prelude.{option_and_then, sum_by}
 use Rattle.std.specs.Option.{option_map}
 use Rattle.std.specs.List.{range_with_len}
@@ -13,7 +13,6 @@ use Rattle.fleet_base.specs.Open.{is_open}
 use Rattle.fleet_base.specs.Rules.{IsFleetState}
 use Rattle.cert_check.specs.declared.edges.Edge.{Edge}
 use Rattle.cert_check.specs.Paths.{edge_in, travel}
-use Rattle.cert_check.specs.Sides.{capped}
 use Rattle.cert_check.specs.Orders.{KeepsClosed}
 use Rattle.cert_check.proofs.EdgeLaws.{visit, open_goes_on}
 use Rattle.cert_check.proofs.Lawful.{edge_of_state}
@@ -55,9 +54,9 @@ tail_there g x state order keeps q u v e = go (is_open g x q) refl
     go true o = subst (λ (w : Visit). IsVisit g w) (sym e.tail) (open_goes_on g x q e.pair e.side state.fleet.graph e.listed o)
     go false o = state.order.follows q u v (edge_of_state g x state order keeps q u v e o)
 
--- a sum that stays at the greatest number, with one more
-pub capped_more : (f : ℕ → ℕ) (n a b tick : ℕ) → a ≡ capped (sum_by f (range_with_len 0 n)) → tick ≡ f n → b ≡ min (a + tick) (2 ^ 64 - 1) → b ≡ capped (sum_by f (range_with_len 0 (n + 1)))
-capped_more f n a b tick h t e =
+-- a sum over the numbers from 0 on, with one more
+pub sum_next : (f : ℕ → ℕ) (n a b tick : ℕ) → a ≡ sum_by f (range_with_len 0 n) → tick ≡ f n → b ≡ a + tick → b ≡ sum_by f (range_with_len 0 (n + 1))
+sum_next f n a b tick h t e =
     let more = sum_more f n 0 in
     let place = ap f (let z : 0 + n ≡ n = omega arith in z) in
     let len = ap (λ m. sum_by f (range_with_len 0 m)) (let z : n + 1 ≡ suc n = omega arith in z) in

@@ -1,5 +1,5 @@
 -- The sides that are decided on the way to a node, kept as a list.
-use Rattle.std.specs.Prelude.{ℕ, ◌≡◌, ◌-◌, ◌^◌, min, List, length, slice_index_or, Option, None}
+use Rattle.std.specs.Prelude.{ℕ, ◌≡◌, List, length, slice_index_or, Option, None}
 use Rattle.fleet_base.specs.declared.order.Side.{Side}
 use Rattle.fleet_base.specs.Order.{Graph}
 use Rattle.fleet_base.specs.State.{FleetState}
@@ -16,7 +16,3 @@ HasSides g sides = length sides ≡ length g.pairs
 -- the order of the closed pairs and the decided ones
 abbrev pub order_by : Graph → FleetState → List (Option Side) → ℕ → Option Side
 order_by g x sides = decision_order g x (decided sides)
-
--- a number, or the greatest of 64 bits where it is larger
-abbrev pub capped : ℕ → ℕ
-capped n = min n (2 ^ 64 - 1)

@@ -147,6 +147,7 @@ fn judge_bound(
     let Some(total) = total(graph, fleet, sides, paths) else {
         return Some(NoWhy::Path);
     };
+    let cost = u128::from(cost);
     if total < cost { Some(NoWhy::Sum) } else { None }
 }
 
@@ -193,6 +194,8 @@ fn needed(
         return false;
     }
     let relaxed = end_sum(graph, ticks);
+    let cost = u128::from(cost);
+    let least = u128::from(least);
     if cost <= relaxed || least < relaxed {
         return false;
     }
@@ -224,6 +227,7 @@ fn left_open(
     if !relax(graph, fleet, sides, ticks) {
         return false;
     }
+    let least = u128::from(least);
     if end_sum(graph, ticks) != least {
         return false;
     }

@@ -1,11 +1,10 @@
-ghost use Rattle.std.specs.Prelude.{◌≡◌, ◌<◌, ◌≤◌, true, length, map, IfSome, IfNone, slice_index};
-ghost use Rattle.std.specs.Option.{option_map};
+ghost use Rattle.std.specs.Prelude.{◌≡◌, ◌<◌, ◌≤◌, ◌^◌, true, length, map, IfSome, IfNone, slice_index};
 ghost use Rattle.std.specs.List.Sorted.{IsStrictlyIncreasing};
 ghost use Rattle.fleet_base.specs.Order.{IsVisit, last_in};
 ghost use Rattle.fleet_base.specs.State.{arrived_count, duration_of};
 ghost use Rattle.fleet_base.specs.Rules.{IsFleetState};
 ghost use Rattle.cert_check.specs.Paths.{travel, walk_end, coming, start_tick, has_finished, finished_length, start_robot, path_length, total_length, ArePaths};
-ghost use Rattle.cert_check.specs.Sides.{order_by, HasSides, capped};
+ghost use Rattle.cert_check.specs.Sides.{order_by, HasSides};
 ghost use Rattle.cert_check.specs.Judging.{TakesPath};
 
 use crate::edges::{find_edge, leads};
@@ -28,7 +27,8 @@ fn moves(graph: &PlanGraph, fleet: &Fleet, from: Visit, to: u32) -> u64
     requires state { IsFleetState graph.now fleet.now }
     requires robot { from.robot < length graph.now.lasts }
     requires to { to ≤ last_in graph.now from.robot }
-    ensures { result ≡ travel fleet.now from to }
+    ensures value { result ≡ travel fleet.now from to }
+    ensures short { result < 2 ^ 52 }
 {
     let _within = graph.robots();
     let mut sum = 0;
@@ -116,7 +116,7 @@ fn first_robot(
 }
 
 /// The tick at which a walk ends that is at a visit at a tick, goes by these pairs and ends at the last visit of a robot.
-/// Sums stay at the greatest number.
+/// The pairs may go round a cycle, so 64 bits are not enough for it; 128 are, since a leg lasts less than 2^53 ticks.
 fn walk(
     graph: &PlanGraph,
     fleet: &Fleet,
@@ -125,15 +125,16 @@ fn walk(
     pairs: &[PairId],
     from: Visit,
     start: u64,
-) -> Option<u64>
+) -> Option<u128>
     requires state { IsFleetState graph.now fleet.now }
     requires sides { HasSides graph.now sides.now }
     requires robot { robot < length graph.now.lasts }
     requires from { from.robot < length graph.now.lasts }
-    ensures { result ≡ option_map capped (walk_end graph.now fleet.now (order_by graph.now fleet.now sides.now) robot from start pairs.now) }
+    ensures value { result ≡ walk_end graph.now fleet.now (order_by graph.now fleet.now sides.now) robot from start pairs.now }
+    ensures short { IfSome result (λ end. end < 2 ^ 118) }
 {
     let mut at = from;
-    let mut tick = start;
+    let mut tick = u128::from(start);
     for q in pairs {
         let Some(next) = find_edge(graph, fleet, sides, *q) else {
             return None;
@@ -143,28 +144,28 @@ fn walk(
         }
         let along = moves(graph, fleet, at, next.tail.index);
         let across = duration(fleet, next.head);
-        tick = tick.saturating_add(along).saturating_add(across);
+        tick += u128::from(along) + u128::from(across);
         at = next.head;
     }
     if at.robot != robot {
         return None;
     }
-    Some(tick.saturating_add(moves(graph, fleet, at, graph.last(robot))))
+    Some(tick + u128::from(moves(graph, fleet, at, graph.last(robot))))
 }
 
-/// The length of a path for a robot, if these pairs are one. It stays at the greatest number, since a path may go round a
-/// cycle.
+/// The length of a path for a robot, if these pairs are one.
 fn length_of(
     graph: &PlanGraph,
     fleet: &Fleet,
     sides: &[Option<Side>],
     robot: u32,
     pairs: &[PairId],
-) -> Option<u64>
+) -> Option<u128>
     requires state { IsFleetState graph.now fleet.now }
     requires sides { HasSides graph.now sides.now }
     requires robot { robot < length graph.now.lasts }
-    ensures { result ≡ option_map capped (path_length graph.now fleet.now (order_by graph.now fleet.now sides.now) robot pairs.now) }
+    ensures value { result ≡ path_length graph.now fleet.now (order_by graph.now fleet.now sides.now) robot pairs.now }
+    ensures short { IfSome result (λ n. n < 2 ^ 118) }
 {
     if finished(graph, fleet, robot) {
         return finished_length(graph, fleet, robot, pairs);
@@ -179,17 +180,21 @@ fn length_of(
 }
 
 /// The length of a path for a robot that has finished: when it arrived.
-fn finished_length(graph: &PlanGraph, fleet: &Fleet, robot: u32, pairs: &[PairId]) -> Option<u64>
+fn finished_length(graph: &PlanGraph, fleet: &Fleet, robot: u32, pairs: &[PairId]) -> Option<u128>
     requires state { IsFleetState graph.now fleet.now }
     requires robot { robot < length graph.now.lasts }
     requires finished { has_finished graph.now fleet.now robot ≡ true }
-    ensures { result ≡ option_map capped (finished_length graph.now fleet.now robot pairs.now) }
+    ensures value { result ≡ finished_length graph.now fleet.now robot pairs.now }
+    ensures short { IfSome result (λ n. n < 2 ^ 118) }
 {
     if !pairs.is_empty() {
         return None;
     }
     let index = graph.last(robot);
-    fleet.arrival_tick(Visit { robot, index })
+    match fleet.arrival_tick(Visit { robot, index }) {
+        Some(tick) => Some(u128::from(tick)),
+        None => None,
+    }
 }
 
 /// The pairs that the paths list for a robot, where the paths of all earlier robots stand before this place, and how many
@@ -205,28 +210,27 @@ fn pairs_at(paths: &[CertPath], place: usize, robot: u32) -> (&[PairId], usize)
     }
 }
 
-/// What the lengths of the paths of all robots add up to, if each is one and they name no other robot. The sum stays at the
-/// greatest number.
+/// What the lengths of the paths of all robots add up to, if each is one and they name no other robot.
 pub(crate) fn total(
     graph: &PlanGraph,
     fleet: &Fleet,
     sides: &[Option<Side>],
     paths: &[CertPath],
-) -> Option<u64>
+) -> Option<u128>
     requires state { IsFleetState graph.now fleet.now }
     requires sides { HasSides graph.now sides.now }
     requires ascending { IsStrictlyIncreasing (map (λ p. p.robot) paths.now) }
-    ensures some { IfSome result (λ total. ArePaths graph.now fleet.now (order_by graph.now fleet.now sides.now) paths.now × (total ≡ capped (total_length graph.now fleet.now (order_by graph.now fleet.now sides.now) paths.now))) }
+    ensures some { IfSome result (λ total. ArePaths graph.now fleet.now (order_by graph.now fleet.now sides.now) paths.now × (total ≡ total_length graph.now fleet.now (order_by graph.now fleet.now sides.now) paths.now)) }
     ensures none { IfNone result (ArePaths graph.now fleet.now (order_by graph.now fleet.now sides.now) paths.now → ⊥) }
 {
-    let mut total = 0_u64;
+    let mut total = 0_u128;
     let mut place = 0;
     for robot in 0..graph.robots() {
         let (pairs, after) = pairs_at(paths, place, robot);
         let Some(length) = length_of(graph, fleet, sides, robot, pairs) else {
             return None;
         };
-        total = total.saturating_add(length);
+        total += length;
         place = after;
     }
     if place == paths.len() {

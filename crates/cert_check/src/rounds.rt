@@ -6,7 +6,7 @@ ghost use Rattle.fleet_base.specs.State.{duration_of, arrived_count};
 ghost use Rattle.fleet_base.specs.Rules.{IsFleetState};
 ghost use Rattle.fleet_base.specs.Schedule.{IsLeastSchedule, end_sum_of};
 ghost use Rattle.cert_check.specs.Paths.{edge_in};
-ghost use Rattle.cert_check.specs.Sides.{order_by, HasSides, capped};
+ghost use Rattle.cert_check.specs.Sides.{order_by, HasSides};
 ghost use Rattle.cert_check.specs.Rounds.{floor, edge_bound, raised, ticks_of, HasTicks, IsLow, IsPast, IsBelow, HasRounds, IsSettled, KeepsRows, Raises, RaisesAll};
 
 use crate::edges::find_edge;
@@ -178,16 +178,17 @@ pub(crate) fn tick_of(graph: &PlanGraph, ticks: &Ticks, v: Visit) -> u64
     ticks.row(v.robot as usize)[v.index as usize]
 }
 
-/// The sum of the ticks of the robots' last visits. It stays at the greatest number.
-pub(crate) fn end_sum(graph: &PlanGraph, ticks: &Ticks) -> u64
+/// The sum of the ticks of the robots' last visits.
+pub(crate) fn end_sum(graph: &PlanGraph, ticks: &Ticks) -> u128
     requires ticks { HasTicks graph.now ticks.now }
-    ensures { result ≡ capped (end_sum_of graph.now (ticks_of ticks.now)) }
+    requires bound { IsBelow (2 ^ 62) (ticks_of ticks.now) }
+    ensures { result ≡ end_sum_of graph.now (ticks_of ticks.now) }
 {
     let _within = graph.robots();
-    let mut sum = 0_u64;
+    let mut sum = 0_u128;
     for robot in 0..graph.robots() {
         let index = graph.last(robot);
-        sum = sum.saturating_add(tick_of(graph, ticks, Visit { robot, index }));
+        sum += u128::from(tick_of(graph, ticks, Visit { robot, index }));
     }
     sum
 }

@@ -9,10 +9,10 @@ pub returns-then-not-relax-clause-left : goal.returns-then-not-relax-clause-left
 returns-then-not-relax-clause-left c = λ way gives. (λ t. absurd (false≢true t), λ n. absurd (cyclic_not_left c.args.graph.now c.args.fleet.now c.args.sides.now (c.relax.ensures.cyclic c.if-not-relax.true) c.args.cost c.args.least way gives n))
 
 pub end_sum-requires : goal.end_sum-requires
-end_sum-requires c = record { ticks = has_ticks_kept c.args.graph.now c.args.ticks.now _ c.requires.ticks c.relax.ensures.rows }
+end_sum-requires c = record { ticks = has_ticks_kept c.args.graph.now c.args.ticks.now _ c.requires.ticks c.relax.ensures.rows; bound = c.relax.ensures.bound }
 
 pub returns-then-end_sum-least-clause-left : goal.returns-then-end_sum-least-clause-left
-returns-then-end_sum-least-clause-left c = λ way gives. (λ t. absurd (false≢true t), λ n. absurd (let e = left_sum c.args.graph.now c.args.fleet.now c.args.sides.now c.requires.state (ticks_of c.relax.new.ticks) (c.relax.ensures.least c.if-not-relax.false) c.args.cost c.args.least way gives n in c.if-end_sum-least.true (omega (arith, c.end_sum.ensures, e, c.ranges.least.fits))))
+returns-then-end_sum-least-clause-left c = λ way gives. (λ t. absurd (false≢true t), λ n. absurd (let e = left_sum c.args.graph.now c.args.fleet.now c.args.sides.now c.requires.state (ticks_of c.relax.new.ticks) (c.relax.ensures.least c.if-not-relax.false) c.args.cost c.args.least way gives n in c.if-end_sum-least.true (omega (arith, c.end_sum.ensures, c.from-least.ensures, e))))
 
 pub returns-clause-left : goal.returns-clause-left
-returns-clause-left c = λ way gives. (λ t. left_is c.args.graph.now c.args.fleet.now c.args.sides.now c.requires.state (ticks_of c.relax.new.ticks) (c.relax.ensures.least c.if-not-relax.false) c.args.cost c.args.least (omega (arith, c.if-cost-least.false)) (omega (arith, c.end_sum.ensures, c.if-end_sum-least.false, c.if-cost-least.false, c.ranges.cost.fits)) way gives (c.has_free.ensures.0 t), λ n. c.has_free.ensures.1 (left_free c.args.graph.now c.args.fleet.now c.args.sides.now c.args.cost c.args.least way gives n))
+returns-clause-left c = λ way gives. (λ t. left_is c.args.graph.now c.args.fleet.now c.args.sides.now c.requires.state (ticks_of c.relax.new.ticks) (c.relax.ensures.least c.if-not-relax.false) c.args.cost c.args.least (omega (arith, c.if-cost-least.false)) (omega (arith, c.end_sum.ensures, c.from-least.ensures, c.if-end_sum-least.false)) way gives (c.has_free.ensures.0 t), λ n. c.has_free.ensures.1 (left_free c.args.graph.now c.args.fleet.now c.args.sides.now c.args.cost c.args.least way gives n))

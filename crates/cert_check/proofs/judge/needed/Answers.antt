@@ -11,10 +11,10 @@ pub returns-then-not-relax-clause-needed : goal.returns-then-not-relax-clause-ne
 returns-then-not-relax-clause-needed c = λ way gives. (λ t. absurd (false≢true t), λ n. absurd (cyclic_not_needed c.args.graph.now c.args.fleet.now c.args.sides.now (c.relax.ensures.cyclic c.if-not-relax.true) c.args.cost c.args.least way c.args.q.0 gives n))
 
 pub end_sum-relaxed-requires : goal.end_sum-relaxed-requires
-end_sum-relaxed-requires c = record { ticks = has_ticks_kept c.args.graph.now c.args.ticks.now _ c.requires.ticks c.relax.ensures.rows }
+end_sum-relaxed-requires c = record { ticks = has_ticks_kept c.args.graph.now c.args.ticks.now _ c.requires.ticks c.relax.ensures.rows; bound = c.relax.ensures.bound }
 
 pub returns-then-cost-relaxed-clause-needed : goal.returns-then-cost-relaxed-clause-needed
-returns-then-cost-relaxed-clause-needed c = λ way gives. (λ t. absurd (false≢true t), λ n. absurd (dear_not_needed c.args.graph.now c.args.fleet.now c.args.sides.now c.requires.state (ticks_of c.relax.new.ticks) (c.relax.ensures.least c.if-not-relax.false) c.end_sum-relaxed.result c.args.cost c.args.least c.end_sum-relaxed.ensures c.end_sum-relaxed.type_inv c.ranges.least.fits c.ranges.cost.fits (elim c.then-cost-relaxed.branch [ then-cost-relaxed-via-then-cost-relaxed w ↦ inl w.if-cost-relaxed.true | then-cost-relaxed-via-else-cost-relaxed+then-least-relaxed w ↦ inr w.if-least-relaxed.true ]) way c.args.q.0 gives n))
+returns-then-cost-relaxed-clause-needed c = λ way gives. (λ t. absurd (false≢true t), λ n. absurd (dear_not_needed c.args.graph.now c.args.fleet.now c.args.sides.now c.requires.state (ticks_of c.relax.new.ticks) (c.relax.ensures.least c.if-not-relax.false) c.end_sum-relaxed.result c.args.cost c.args.least c.end_sum-relaxed.ensures (elim c.then-cost-relaxed.branch [ then-cost-relaxed-via-then-cost-relaxed w ↦ inl (omega (arith, w.if-cost-relaxed.true, c.from-cost.ensures)) | then-cost-relaxed-via-else-cost-relaxed+then-least-relaxed w ↦ inr (omega (arith, w.if-least-relaxed.true, c.from-least.ensures)) ]) way c.args.q.0 gives n))
 
 pub obeys-requires-clause-ticks : goal.obeys-requires-clause-ticks
 obeys-requires-clause-ticks c = has_ticks_kept c.args.graph.now c.args.ticks.now _ c.requires.ticks c.relax.ensures.rows
@@ -26,4 +26,4 @@ pub obeys-requires-2-clause-ticks : goal.obeys-requires-2-clause-ticks
 obeys-requires-2-clause-ticks c = has_ticks_kept c.args.graph.now c.args.ticks.now _ c.requires.ticks c.relax.ensures.rows
 
 pub returns-clause-needed : goal.returns-clause-needed
-returns-clause-needed c = λ way gives. needed_by c.args.graph.now c.args.fleet.now c.args.sides.now c.requires.state (ticks_of c.relax.new.ticks) (c.relax.ensures.least c.if-not-relax.false) c.pair-pair.result c.args.q.0 c.pair-pair.ensures c.requires.open c.obeys.result c.obeys-2.result c.if-obeys.false c.obeys.ensures c.obeys-2.ensures c.args.cost c.args.least (omega (arith, c.end_sum-relaxed.ensures, c.if-cost-relaxed.false, c.ranges.cost.fits)) (omega (arith, c.end_sum-relaxed.ensures, c.if-cost-relaxed.false, c.if-least-relaxed.false, c.ranges.cost.fits)) way gives
+returns-clause-needed c = λ way gives. needed_by c.args.graph.now c.args.fleet.now c.args.sides.now c.requires.state (ticks_of c.relax.new.ticks) (c.relax.ensures.least c.if-not-relax.false) c.pair-pair.result c.args.q.0 c.pair-pair.ensures c.requires.open c.obeys.result c.obeys-2.result c.if-obeys.false c.obeys.ensures c.obeys-2.ensures c.args.cost c.args.least (omega (arith, c.end_sum-relaxed.ensures, c.if-cost-relaxed.false, c.from-cost.ensures)) (omega (arith, c.end_sum-relaxed.ensures, c.if-least-relaxed.false, c.from-least.ensures)) way gives

@@ -5,11 +5,11 @@ use Rattle.cert_check.proofs.path.total.Goals as goal
 
 pub returns-in_default-clause-none : goal.returns-in_default-clause-none
 returns-in_default-clause-none c =
-    no_length c.args.graph.now c.args.fleet.now (order_by c.args.graph.now c.args.fleet.now c.args.sides.now) c.args.paths.now c.loop-robot.place c.loop-robot.robot _ c.loop-robot.total _ c.requires.ascending c.loop-robot.invariant c.pairs_at-after.ensures (sym c.in_default.is ∙ c.length_of.ensures) (omega (arith, c.loop-robot-test.true, c.robots-robot-end.ensures.count))
+    no_length c.args.graph.now c.args.fleet.now (order_by c.args.graph.now c.args.fleet.now c.args.sides.now) c.args.paths.now c.loop-robot.place c.loop-robot.robot _ c.loop-robot.total _ c.requires.ascending c.loop-robot.invariant c.pairs_at-after.ensures (sym c.in_default.is ∙ c.length_of.ensures.value) (omega (arith, c.loop-robot-test.true, c.robots-robot-end.ensures.count))
 
 pub loop-robot-preserved : goal.loop-robot-preserved
 loop-robot-preserved c =
-    total_more c.args.graph.now c.args.fleet.now (order_by c.args.graph.now c.args.fleet.now c.args.sides.now) c.args.paths.now c.loop-robot.place c.loop-robot.robot _ c.loop-robot.total _ c.in-Some.length _ c.requires.ascending c.loop-robot.invariant c.pairs_at-after.ensures (sym c.in-Some.is ∙ c.length_of.ensures) c.saturating_add-total.ensures
+    total_more c.args.graph.now c.args.fleet.now (order_by c.args.graph.now c.args.fleet.now c.args.sides.now) c.args.paths.now c.loop-robot.place c.loop-robot.robot _ c.loop-robot.total _ c.in-Some.length _ c.requires.ascending c.loop-robot.invariant c.pairs_at-after.ensures (sym c.in-Some.is ∙ c.length_of.ensures.value) c.in-Some.ensures.short (omega arith)
 
 pub returns-then-place-paths-clause-some : goal.returns-then-place-paths-clause-some
 returns-then-place-paths-clause-some c =

@@ -1,4 +1,4 @@
--- The walk goes on from the visit at hand at a tick that is kept up to the greatest number.
+-- The walk goes on from the visit at hand.
 use Rattle.cert_check.specs.Sides.{order_by}
 use Rattle.cert_check.proofs.WalkLaws.{HasWalked}
 use Rattle.cert_check.proofs.path.walk.Given as goal
