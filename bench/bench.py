@@ -1,7 +1,8 @@
 #!/usr/bin/env python3
-"""Times `fleet check` on large files of its own making, beside `cksum` and `wc -w` of the same files, rankings and schedules.
+"""Times `fleet check` on large files of its own making, beside `cksum` and `wc -w` of the same files, rankings, schedules and
+checks of certificates.
 
-Usage: bench/bench.py FLEET RANK_BENCH
+Usage: bench/bench.py FLEET RANK_BENCH CERT_BENCH
 
 Each row of the first table is one pair of files, each row of the second one plan. A time is the least of nine runs, as the
 processor time of the process; the memory is the greatest resident size. The tables are written in Markdown.
@@ -155,12 +156,56 @@ def session_table(program):
     session_row(program, 32, 320, convoy_reports(32, 320).encode())
 
 
+TREES = [
+    ("optimal, no paths", "bare", 20, 2, (13, 16, 19)),
+    ("optimal, a path for each decided pair", "listed", 20, 2, (10, 13, 16)),
+    ("spent", "spent", 20, 2, (13, 16, 19)),
+    ("optimal, no paths", "bare", 80, 2, (16,)),
+    ("optimal, no paths", "bare", 20, 9, (16,)),
+    ("optimal, a path for each decided pair", "listed", 80, 2, (13,)),
+    ("spent", "spent", 80, 2, (16,)),
+    ("spent", "spent", 20, 9, (16,)),
+]
+
+
+def cert_row(program, name, tree):
+    """Reading and checking one certificate, each so often that small ones take long enough to be timed."""
+    crossings, arm = int(tree[1]), int(tree[2])
+    with tempfile.TemporaryDirectory() as folder:
+        path, empty = (os.path.join(folder, file) for file in ("C", "E"))
+        open(empty, "w").close()
+        with open(path, "wb") as file:
+            subprocess.run([program, *tree, "0", "0"], stdout=file, check=True)
+        with open(path, "rb") as file:
+            lines = file.read().count(b"\n")
+        size = os.path.getsize(path)
+        words = least(["wc", "-w", path])[0] - least(["wc", "-w", empty])[0]
+    subprocess.run([program, *tree, "1", "1"], check=True)
+    times = max(1, 300000 // lines)
+    once = least([program, *tree, "1", "0"])[0]
+    read = (least([program, *tree, str(1 + times), "0"])[0] - once) / times
+    checked = (least([program, *tree, "1", str(times)])[0] - once) / times
+    state = f"{2 * crossings} | {2 * crossings * (2 * arm + 1)}"
+    spent = f"{1e3 * read:.1f} | {1e9 * read / lines:.0f} | {1e3 * checked:.1f} | {1e9 * checked / lines:.0f} | {1e3 * words:.1f}"
+    print(f"| {name} | {state} | {lines:,} | {size / 1e6:.1f} | {spent} |", flush=True)
+
+
+def cert_table(program):
+    print("| tree | robots | visits | lines | MB of text | ms of reading | ns a line | ms of checking | ns a line | ms of `wc -w` |")
+    print("|---|---|---|---|---|---|---|---|---|---|")
+    for name, kind, crossings, arm, depths in TREES:
+        for depth in depths:
+            cert_row(program, name, [kind, str(crossings), str(arm), str(depth)])
+
+
 def main():
     check_table(os.path.abspath(sys.argv[1]))
     print()
     rank_table(os.path.abspath(sys.argv[2]))
     print()
     session_table(os.path.abspath(sys.argv[1]))
+    print()
+    cert_table(os.path.abspath(sys.argv[3]))
 
 
 if __name__ == "__main__":
