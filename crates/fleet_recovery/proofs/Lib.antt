@@ -6,4 +6,5 @@ pub mod OneImage
 pub mod OneState
 pub mod Opens
 pub mod Passing
+pub mod Sending
 pub mod Replays

@@ -1,5 +1,5 @@
 -- What the opening of a journal leaves at each moment, and at its end.
-use Rattle.std.proofs.Common.{◌≡◌, inl, inr, ℕ, ◌+◌, ◌≤◌, List, [], ◌∷◌, ◌++◌, length, length-append, refl, sym, subst, ap, arith, Option, Some, None}
+use Rattle.std.proofs.Common.{◌≡◌, ◌∙◌, inl, inr, ℕ, ◌+◌, ◌≤◌, List, [], ◌∷◌, ◌++◌, length, length-append, refl, sym, subst, ap, arith, Option, Some, None}
 use Rattle.std.specs.Int.{w32, w64, to_be_bytes}
 use Rattle.fleet_base.specs.declared.geometry.PlannedVisit.{PlannedVisit}
 use Rattle.fleet_base.specs.Order.{graph_of}
@@ -25,7 +25,7 @@ use Rattle.fleet_recovery.specs.declared.error.RecoverError.TheVariants as recov
 use Rattle.fleet_recovery.specs.Papers.{Papers, new_header}
 use Rattle.fleet_recovery.specs.Image.{MeansState, HoldsState, blank, found}
 use Rattle.fleet_recovery.specs.Answers.{HasJournal, IsLooked, UnlessStation}
-use Rattle.fleet_recovery.specs.Opening.{IsOpening, before, during, StandsStill, IsAtRest}
+use Rattle.fleet_recovery.specs.Opening.{IsOpening, before, during, StandsStill, Opens, again, IsAtRest}
 
 -- how long the payload of a new header is
 lengths : (a b m p t : List ℕ) → length (a ++ (b ++ (m ++ (p ++ t)))) ≡ length a + (length b + (length m + (length p + length t)))
@@ -123,6 +123,12 @@ module _ (routes : List (List PlannedVisit)) (papers : Papers) (k0 k2 : Clock) (
 
     pub not_blank : ¬ IsBlankJournal k0.seen
     not_blank is = taken_not_blank journal.side has.header k0.seen (keeps_taken journal.side has.header has.entries k0.seen has.stands.keeps) is
+
+-- a journal that was found is opened where it stands
+pub opens_again : (routes : List (List PlannedVisit)) (papers : Papers) (scene : Scene) (x : FleetState) (base : ℕ) (journal : Standing) (other : OtherSide) → HasJournal routes papers scene x base journal other → (new : Standing) → new ≡ journal
+    → Opens routes papers scene x new.place
+opens_again routes papers scene x base journal other has new same =
+    again (record { side = journal.side; header = has.header; entries = has.entries; keeps = has.stands.keeps; means = has.means }) (ap (λ (j : Standing). j.place) same ∙ has.stands.place)
 
 -- what stood at a scene stands at one that is the same
 pub stands_at : (journal : Standing) (header : HeaderParts) (entries : List (List ℕ)) (s t : Scene) → t ≡ s → Stands journal header entries s → Stands journal header entries t

@@ -13,9 +13,9 @@ ghost use Rattle.fleet_journal.specs.Journal.{IsHeaderText, Stands};
 ghost use Rattle.fleet_recovery.specs.Papers.{new_header};
 ghost use Rattle.fleet_journal.specs.declared.error.JournalError.TheVariants.{Station as StationFault};
 ghost use Rattle.fleet_recovery.specs.declared.error.RecoverError.TheVariants.{Journal as OfJournal};
-ghost use Rattle.fleet_recovery.specs.Image.{IsImage, StandsFor};
+ghost use Rattle.fleet_recovery.specs.Image.{IsImage};
 ghost use Rattle.fleet_recovery.specs.Answers.{MakeRefuses, RecoverRefuses, UnlessStation};
-ghost use Rattle.fleet_recovery.specs.Opening.{IsOpening, StandsStill, IsAtRest};
+ghost use Rattle.fleet_recovery.specs.Opening.{IsOpening, StandsStill, Opens, IsAtRest};
 
 use crate::{Looked, RecoverError, look};
 use fleet_base::{Fleet, Memory, PairTable, SoundPlan, Text};
@@ -49,7 +49,7 @@ pub fn recover<T: Station>(
     ensures afterwards { T.tells → IsQuiet (T.clock station.old) (T.clock station.new) ⊎ LeavesNow (StandsStill plan.now (record { map = map.now; plan = text.now }) (T.clock station.old).seen) (T.clock station.new) }
 
     // At Ok the state is that for which the sides stood, and station and journal are at rest with it.
-    ensures restores { T.tells → IfOk result (λ opened. StandsFor plan.now (record { map = map.now; plan = text.now }) (T.clock station.old).seen opened.0) }
+    ensures restores { T.tells → IfOk result (λ opened. Opens plan.now (record { map = map.now; plan = text.now }) (T.clock station.old).seen opened.0 opened.1.place) }
     ensures rests { T.tells → IfOk result (λ opened. IsAtRest plan.now (record { map = map.now; plan = text.now }) opened.1 opened.0 (T.clock station.new)) }
     ensures unsent { T.tells → (T.clock station.new).seen.sent ≡ (T.clock station.old).seen.sent }
 
@@ -99,6 +99,7 @@ fn make<T: Station>(
     requires blank { T.tells → IsBlankJournal (T.clock station.old).seen }
     ensures creates { T.tells → IfOk result (λ journal. Stands journal (new_header map.now text.now) [] (T.clock station.new).seen) }
     ensures side { IfOk result (λ journal. journal.side ≡ DiskSide.A) }
+    ensures place { IfOk result (λ journal. journal.place ≡ length map.now + length text.now + 27) }
     ensures kept { T.tells → OnOk result (IsKept (T.clock station.old) → IsKept (T.clock station.new)) }
     ensures any_moment { T.tells → IsKept (T.clock station.old) → LeavesOnly (BlankOrCreated (new_header map.now text.now)) (T.clock station.old) (T.clock station.new) }
     ensures unsent { T.tells → (T.clock station.new).seen.sent ≡ (T.clock station.old).seen.sent }

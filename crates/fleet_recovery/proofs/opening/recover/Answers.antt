@@ -3,7 +3,8 @@ use Rattle.station_api.proofs.Moments.{kept_quiet}
 use Rattle.fleet_recovery.specs.Papers.{new_header}
 use Rattle.fleet_recovery.proofs.Passing.{quiet_on}
 use Rattle.fleet_recovery.proofs.Replays.{told_on}
-use Rattle.fleet_recovery.proofs.Opens.{unless, unless_also, making, new_rests, finishing, rests, not_blank, stands_at, looked_blank, looked_live, made_now, finished_now}
+use Rattle.fleet_recovery.specs.Opening.{anew}
+use Rattle.fleet_recovery.proofs.Opens.{opens_again, unless, unless_also, making, new_rests, finishing, rests, not_blank, stands_at, looked_blank, looked_live, made_now, finished_now}
 use Rattle.fleet_recovery.proofs.opening.recover.Goals.{in-None+in_ok-journal-in-None, in-Some+in_ok-journal-in-Some}
 use Rattle.fleet_recovery.proofs.opening.recover.Goals as goal
 
@@ -99,4 +100,15 @@ returns-clause-within g c told blank =
           let quiet = quiet_on _ _ _ (c.sync_both.ensures.quiet told) (c.look.ensures.quiet told) in
           let has = looked_live _ _ _ _ _ _ _ _ _ (c.sync_both.ensures.quiet told).seen w.in-Some.is (c.in_ok-fleet.ensures.found told) in
           absurd (not_blank _ _ _ _ quiet _ _ _ _ has blank)
+    ]
+
+pub returns-clause-restores : goal.returns-clause-restores
+returns-clause-restores g c told =
+    elim c.match-live.branch [
+      | in-None+in_ok-journal-in-None w ↦
+          let at = looked_blank _ _ _ _ _ _ _ (c.sync_both.ensures.quiet told).seen w.in-None.is (c.in_ok-fleet.ensures.found told) in
+          rw w.journal-is (anew at.0 at.1 w.in_ok-journal-in-None.ensures.place)
+      | in-Some+in_ok-journal-in-Some w ↦
+          let has = looked_live _ _ _ _ _ _ _ _ _ (c.sync_both.ensures.quiet told).seen w.in-Some.is (c.in_ok-fleet.ensures.found told) in
+          rw w.journal-is (opens_again _ _ _ _ _ _ _ has _ w.in_ok-journal-in-Some.ensures.same)
     ]
