@@ -1,8 +1,13 @@
+pub mod Counting
+pub mod Decided
+pub mod Fronts
+pub mod GoingOn
+pub mod LongLines
 pub mod Moments
 pub mod Pieces
-pub mod TurnLaws
-pub mod GoingOn
-pub mod Texts
-pub mod Fronts
 pub mod Releases
 pub mod SessionWorld
+pub mod StepMoments
+pub mod Texts
+pub mod TurnLaws
+pub mod TurnMoments

@@ -32,7 +32,7 @@ use Rattle.report_text.specs.declared.answer.Answer.TheVariants.{Ready, Done, Kn
 use Rattle.report_text.specs.AnswerLine.{answer_line}
 use Rattle.fleet_core.specs.Step.{Step, heard_of, tick_of}
 use Rattle.fleet_serve.specs.Lines.{pending, release_lines, greeting_of}
-use Rattle.fleet_serve.specs.Turns.{TurnMade, Answers, IsTurn, malformed, known, refused, full, entered, AreTurns, state_after, answers_of}
+use Rattle.fleet_serve.specs.Turns.{Point, TurnMade, Answers, IsTurn, malformed, known, refused, full, entered, AreTurns, state_after, answers_of}
 use Rattle.fleet_serve.proofs.TurnLaws.{turn_keeps}
 
 -- ---- a release line tells one visit alone
@@ -127,7 +127,7 @@ abbrev pub TellReleased : List (List PlannedVisit) → FleetState → List (List
 TellReleased routes x lines = (l : List ℕ) → Contains lines l → (v : Visit) (c : Cell) → IsOnRoute routes v → l ≡ release_text v c → IsReleased x v
 
 -- a line that releases nothing
-abbrev ReleasesNothing : List ℕ → Type 0
+abbrev pub ReleasesNothing : List ℕ → Type 0
 ReleasesNothing l = (u : Visit) (c : Cell) → l ≡ release_text u c → ⊥
 
 ready_nothing : (n : ℕ) → ReleasesNothing (answer_line (Ready n))
@@ -142,13 +142,13 @@ known_nothing u c e = absurd (omega (arith, ap (λ (l : List ℕ). get_or l 0 0)
 refused_nothing : (why : Why) → ReleasesNothing (answer_line (Refused why))
 refused_nothing why u c e = absurd (omega (arith, ap (λ (l : List ℕ). get_or l 2 0) e))
 
-tell_none : (routes : List (List PlannedVisit)) (x : FleetState) → TellReleased routes x []
+pub tell_none : (routes : List (List PlannedVisit)) (x : FleetState) → TellReleased routes x []
 tell_none routes x l h v c on e = absurd (in_none l h)
 
-tell_nothing : (routes : List (List PlannedVisit)) (x : FleetState) (l : List ℕ) → ReleasesNothing l → TellReleased routes x (l ∷ [])
+pub tell_nothing : (routes : List (List PlannedVisit)) (x : FleetState) (l : List ℕ) → ReleasesNothing l → TellReleased routes x (l ∷ [])
 tell_nothing routes x l nothing m h v c on e = absurd (nothing v c (in_one l m h ∙ e))
 
-tell_both : (routes : List (List PlannedVisit)) (x : FleetState) (a b : List (List ℕ)) → TellReleased routes x a → TellReleased routes x b → TellReleased routes x (a ++ b)
+pub tell_both : (routes : List (List PlannedVisit)) (x : FleetState) (a b : List (List ℕ)) → TellReleased routes x a → TellReleased routes x b → TellReleased routes x (a ++ b)
 tell_both routes x a b ta tb l h v c on e = go (Contains-append_cases a b l h)
   where
     go : Contains a l ⊎ Contains b l → IsReleased x v
@@ -181,47 +181,47 @@ pub record TurnTells (routes : List (List PlannedVisit)) (x : FleetState) (answe
   pub grows : (i : ℕ) → released_count x i ≤ released_count x' i
   pub lines : TellReleased routes x' answer
 
-answer_tells : (routes : List (List PlannedVisit)) (x : FleetState) (turn : TurnMade) (answer : Answer) → ReleasesNothing (answer_line answer) → Answers x turn answer → TurnTells routes x turn.answer turn.state
+answer_tells : (routes : List (List PlannedVisit)) (x : Point) (turn : TurnMade) (answer : Answer) → ReleasesNothing (answer_line answer) → Answers x turn answer → TurnTells routes x.state turn.answer turn.after.state
 answer_tells routes x turn answer nothing a =
-    subst (λ (y : FleetState). TurnTells routes x turn.answer y) (sym a.same_state)
-    (subst (λ (ls : List (List ℕ)). TurnTells routes x ls x) (sym a.answer_is) (record { grows = λ i. omega arith; lines = tell_nothing routes x (answer_line answer) nothing }))
+    subst (λ (y : Point). TurnTells routes x.state turn.answer y.state) (sym a.stays)
+    (subst (λ (ls : List (List ℕ)). TurnTells routes x.state ls x.state) (sym a.answer_is) (record { grows = λ i. omega arith; lines = tell_nothing routes x.state (answer_line answer) nothing }))
 
-pub turn_tells : (routes : List (List PlannedVisit)) → AreRoutes routes → (x : FleetState) → IsFleetState (graph_of routes) x → (turn : TurnMade) → IsTurn (graph_of routes) routes x turn → TurnTells routes x turn.answer turn.state
-turn_tells routes r x s turn (malformed none a) = answer_tells routes x turn (Refused Line) (refused_nothing Line) a
-turn_tells routes r x s turn (known report is j a) = answer_tells routes x turn Known known_nothing a
-turn_tells routes r x s turn (refused report why is j a) = answer_tells routes x turn (Refused why) (refused_nothing why) a
-turn_tells routes r x s turn (full report is j many a) = answer_tells routes x turn (Refused Full) (refused_nothing Full) a
-turn_tells routes r x s turn (entered report is e) =
+pub turn_tells : (routes : List (List PlannedVisit)) → AreRoutes routes → (limit : ℕ) (x : Point) → IsFleetState (graph_of routes) x.state → (turn : TurnMade) → IsTurn (graph_of routes) routes limit x turn → TurnTells routes x.state turn.answer turn.after.state
+turn_tells routes r limit x s turn (malformed none a) = answer_tells routes x turn (Refused Line) (refused_nothing Line) a
+turn_tells routes r limit x s turn (known report is j a) = answer_tells routes x turn Known known_nothing a
+turn_tells routes r limit x s turn (refused report why is j a) = answer_tells routes x turn (Refused why) (refused_nothing why) a
+turn_tells routes r limit x s turn (full report is j many a) = answer_tells routes x turn (Refused Full) (refused_nothing Full) a
+turn_tells routes r limit x s turn (entered report is room e) =
     let releases = e.entry.releases in
-    let after = turn.state in
-    let kept : IsFleetState (graph_of routes) after = turn_keeps (graph_of routes) routes x turn s (entered report is e) in
+    let after = turn.after.state in
+    let kept : IsFleetState (graph_of routes) after = turn_keeps (graph_of routes) routes limit x turn s (entered report is room e) in
     record {
-      grows = step_grows (graph_of routes) x report [] releases after s e.step;
+      grows = step_grows (graph_of routes) x.state report [] releases after s e.step;
       lines = subst (λ (ls : List (List ℕ)). TellReleased routes after ls) (sym e.answer_is)
           (tell_both routes after (release_lines routes releases) (answer_line (Done after.count) ∷ [])
-          (tell_releases routes r after kept releases (λ v h. new_released (heard_of x report) after v (subst (λ (vs : List Visit). Contains vs v) e.step.releases_are h)))
+          (tell_releases routes r after kept releases (λ v h. new_released (heard_of x.state report) after v (subst (λ (vs : List Visit). Contains vs v) e.step.releases_are h)))
           (tell_nothing routes after (answer_line (Done after.count)) (done_nothing after.count)));
     }
 
 -- after any number of turns, lines that told what is released and the answers since then still do
-pub turns_tell : (routes : List (List PlannedVisit)) → AreRoutes routes → (x : FleetState) → IsFleetState (graph_of routes) x → (lines : List (List ℕ)) → TellReleased routes x lines → (turns : List TurnMade) → AreTurns (graph_of routes) routes x turns → (k : ℕ)
+pub turns_tell : (routes : List (List PlannedVisit)) → AreRoutes routes → (limit : ℕ) (x : Point) → IsFleetState (graph_of routes) x.state → (lines : List (List ℕ)) → TellReleased routes x.state lines → (turns : List TurnMade) → AreTurns (graph_of routes) routes limit x turns → (k : ℕ)
     → TellReleased routes (state_after x (take k turns)) (lines ++ answers_of (take k turns))
-turns_tell routes r x s lines told turns follow zero = tell_both routes x lines [] told (tell_none routes x)
-turns_tell routes r x s lines told [] follow (suc k) = tell_both routes x lines [] told (tell_none routes x)
-turns_tell routes r x s lines told (turn ∷ turns) follow (suc k) =
-    let t = turn_tells routes r x s turn follow.0 in
-    let kept : TellReleased routes turn.state lines = λ l h v c on e. omega (arith, told l h v c on e, t.grows v.robot) in
-    let rest = turns_tell routes r turn.state (turn_keeps (graph_of routes) routes x turn s follow.0) (lines ++ turn.answer) (tell_both routes turn.state lines turn.answer kept t.lines) turns follow.1 k in
-    subst (λ (ls : List (List ℕ)). TellReleased routes (state_after turn.state (take k turns)) ls) (append_assoc lines turn.answer (answers_of (take k turns))) rest
+turns_tell routes r limit x s lines told turns follow zero = tell_both routes x.state lines [] told (tell_none routes x.state)
+turns_tell routes r limit x s lines told [] follow (suc k) = tell_both routes x.state lines [] told (tell_none routes x.state)
+turns_tell routes r limit x s lines told (turn ∷ turns) follow (suc k) =
+    let t = turn_tells routes r limit x s turn follow.0 in
+    let kept : TellReleased routes turn.after.state lines = λ l h v c on e. omega (arith, told l h v c on e, t.grows v.robot) in
+    let rest = turns_tell routes r limit turn.after (turn_keeps (graph_of routes) routes limit x turn s follow.0) (lines ++ turn.answer) (tell_both routes turn.after.state lines turn.answer kept t.lines) turns follow.1 k in
+    subst (λ (ls : List (List ℕ)). TellReleased routes (state_after turn.after (take k turns)) ls) (append_assoc lines turn.answer (answers_of (take k turns))) rest
 
 -- more turns release no less
-pub turns_grow : (routes : List (List PlannedVisit)) → AreRoutes routes → (x : FleetState) → IsFleetState (graph_of routes) x → (turns : List TurnMade) → AreTurns (graph_of routes) routes x turns → (j k i : ℕ) → j ≤ k
+pub turns_grow : (routes : List (List PlannedVisit)) → AreRoutes routes → (limit : ℕ) (x : Point) → IsFleetState (graph_of routes) x.state → (turns : List TurnMade) → AreTurns (graph_of routes) routes limit x turns → (j k i : ℕ) → j ≤ k
     → released_count (state_after x (take j turns)) i ≤ released_count (state_after x (take k turns)) i
-turns_grow routes r x s turns follow zero zero i le = omega arith
-turns_grow routes r x s [] follow zero (suc k) i le = omega arith
-turns_grow routes r x s (turn ∷ turns) follow zero (suc k) i le =
-    omega (arith, (turn_tells routes r x s turn follow.0).grows i, turns_grow routes r turn.state (turn_keeps (graph_of routes) routes x turn s follow.0) turns follow.1 zero k i (omega arith))
-turns_grow routes r x s turns follow (suc j) zero i le = absurd (omega (arith, le))
-turns_grow routes r x s [] follow (suc j) (suc k) i le = omega arith
-turns_grow routes r x s (turn ∷ turns) follow (suc j) (suc k) i le =
-    turns_grow routes r turn.state (turn_keeps (graph_of routes) routes x turn s follow.0) turns follow.1 j k i (omega (arith, le))
+turns_grow routes r limit x s turns follow zero zero i le = omega arith
+turns_grow routes r limit x s [] follow zero (suc k) i le = omega arith
+turns_grow routes r limit x s (turn ∷ turns) follow zero (suc k) i le =
+    omega (arith, (turn_tells routes r limit x s turn follow.0).grows i, turns_grow routes r limit turn.after (turn_keeps (graph_of routes) routes limit x turn s follow.0) turns follow.1 zero k i (omega arith))
+turns_grow routes r limit x s turns follow (suc j) zero i le = absurd (omega (arith, le))
+turns_grow routes r limit x s [] follow (suc j) (suc k) i le = omega arith
+turns_grow routes r limit x s (turn ∷ turns) follow (suc j) (suc k) i le =
+    turns_grow routes r limit turn.after (turn_keeps (graph_of routes) routes limit x turn s follow.0) turns follow.1 j k i (omega (arith, le))

@@ -1,6 +1,8 @@
-pub mod Told
+pub mod Deciding
 pub mod Lines
-pub mod Turns
-pub mod Serving
 pub mod Marks
 pub mod Reading
+pub mod Room
+pub mod Serving
+pub mod Told
+pub mod Turns

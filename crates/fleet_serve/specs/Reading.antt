@@ -3,10 +3,10 @@ use Rattle.std.specs.Prelude.{ℕ, ◌≡◌, List, [], ◌∷◌, ◌++◌, tak
 use Rattle.fleet_base.specs.Bytes.{pieces_of}
 use Rattle.fleet_serve.specs.declared.outcome.StepFault.{StepFault}
 use Rattle.fleet_serve.specs.declared.outcome.StepFault.TheVariants as step_fault
-use Rattle.fleet_serve.specs.Told.{Told, Sends, SendsPart}
+use Rattle.fleet_serve.specs.Told.{Sends, SendsPart}
 use Rattle.fleet_serve.specs.Lines.{text_of}
-use Rattle.fleet_serve.specs.Turns.{TurnMade, answers_of}
-use Rattle.fleet_serve.specs.Serving.{Course, Serves, Begins}
+use Rattle.fleet_serve.specs.Turns.{TurnMade, point_after, answers_of}
+use Rattle.fleet_serve.specs.Serving.{Course, line_of, Serves, Begins}
 
 -- the last of the pieces
 abbrev pub last_piece : List (List ℕ) → List ℕ
@@ -26,9 +26,9 @@ IsUnfinished line = pieces_of line ≡ line ∷ []
 abbrev pub kept_of : List ℕ → List ℕ
 kept_of line = take 258 line
 
--- What it leaves to read some bytes behind a line that was begun: the turns of the whole lines are made. Where a send or memory
+-- What it leaves to read some bytes behind a line that was begun: the turns of the whole lines are made. Where the station or memory
 -- fails, those of the first lines are.
-abbrev pub Hears : Course → List ℕ → List ℕ → List ℕ → Told → Result (Unit {0}) StepFault → Type 0
-Hears s line bytes kept sent (Ok done) = Serves s (line ++ bytes) sent × (kept ≡ kept_of (unfinished (line ++ bytes)))
-Hears s line bytes kept sent (Err step_fault.Station) = (turns : List TurnMade) × (torn : TurnMade) × Begins s (line ++ bytes) (turns ++ torn ∷ []) × SendsPart sent (text_of (answers_of turns)) (text_of torn.answer)
-Hears s line bytes kept sent (Err step_fault.Memory) = (turns : List TurnMade) × Begins s (line ++ bytes) turns × Sends sent (text_of (answers_of turns))
+abbrev pub Hears : Course → List ℕ → List ℕ → List ℕ → Result (Unit {0}) StepFault → Type 0
+Hears s line bytes kept (Ok done) = Serves s (line ++ bytes) × (kept ≡ kept_of (unfinished (line ++ bytes)))
+Hears s line bytes kept (Err step_fault.Station) = (turns : List TurnMade) × (torn : TurnMade) × Begins s (line ++ bytes) (turns ++ torn ∷ []) × SendsPart (line_of s) (text_of (answers_of turns)) (text_of torn.answer)
+Hears s line bytes kept (Err step_fault.Memory) = (turns : List TurnMade) × Begins s (line ++ bytes) turns × (s.to ≡ point_after s.from turns) × Sends (line_of s) (text_of (answers_of turns))

@@ -8,7 +8,7 @@ pub struct Settings {
     pub budget: u64,
     /// That certificates are not sent. There are none yet, so it has no effect.
     pub quiet: bool,
-    /// The greatest length of a side of the journal, in bytes. There is no journal yet, so it has no effect.
+    /// The greatest length of a side of the journal, in bytes.
     pub side_limit: u64,
     /// How many bytes of input are taken at most.
     pub input_limit: u64,
@@ -25,7 +25,7 @@ pub enum Turn {
     Refused(Why),
 }
 
-/// Why an answer is not sent whole.
+/// Why a line has no whole answer.
 #[derive(Clone, Copy, Debug, PartialEq, Eq)]
 pub enum StepFault {
     /// The station failed, and its count of faults rose.

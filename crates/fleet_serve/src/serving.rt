@@ -3,16 +3,18 @@ ghost use Rattle.std.specs.Prelude.{◌≡◌, ◌≤◌, ◌∷◌, [], ℕ, Li
 ghost use Rattle.fleet_base.specs.Order.{graph_of};
 ghost use Rattle.fleet_base.specs.Rules.{IsFleetState};
 ghost use Rattle.station_api.specs.Causes.{Counted, IsToBlame};
-ghost use Rattle.station_api.specs.Disk.{IsSending};
 ghost use Rattle.fleet_serve.specs.Told.{Told, Takes, IsAtEnd};
-ghost use Rattle.fleet_serve.specs.Serving.{ServeLeaves};
+ghost use Rattle.fleet_recovery.specs.Opening.{StandsWith, IsAtRest};
+ghost use Rattle.fleet_serve.specs.Serving.{ServeLeaves, course, papers_in};
 ghost use Rattle.fleet_serve.specs.Reading.{IsUnfinished, kept_of, Hears};
 
 use crate::kit::Kit;
 use crate::lines::{push_kept, trimmed};
 use crate::outcome::{ServeFault, Settings, StepFault};
+use crate::papers::Papers;
 use crate::stepping::step;
 use fleet_base::{Fleet, SoundPlan, Text};
+use fleet_journal::Journal;
 use plan_graph::PlanGraph;
 use station_api::{Source, Station};
 use std::alloc::Global;
@@ -22,21 +24,31 @@ const READ_SIZE: u64 = 512;
 
 /// Answers report lines until the input ends. It reads at most 512 bytes at a time, and only when the answer of every whole
 /// line taken has been sent. A rest without a line end is dropped.
+///
+/// The journal stands at its closed gate, on the side taken, and the sides stand for the fleet.
 pub fn serve<S: Source, T: Station>(
     alloc: Global,
     graph: &PlanGraph,
     plan: &SoundPlan,
     fleet: &mut Fleet,
+    journal: &mut Journal,
     kit: &mut Kit,
     settings: &Settings,
+    papers: &Papers<'_>,
     source: &mut S,
     station: &mut T,
 ) -> Result<(), ServeFault>
     requires graph { graph.now ≡ graph_of plan.now }
     requires state { IsFleetState graph.now fleet.old }
-    ensures served { (taken : List ℕ) × Takes (record { tells = S.tells; before = S.left source.old; now = S.left source.new }) taken × ServeLeaves (record { routes = plan.now; from = fleet.old; to = fleet.new }) settings.now.input_limit taken (S.last source.new) (record { tells = S.tells; before = S.left source.old; now = S.left source.new }) (record { tells = T.tells; before = (T.clock station.old).seen.sent; now = (T.clock station.new).seen.sent }) result }
+    requires stands { T.tells → StandsWith plan.now (papers_in papers.now) journal.old fleet.old (T.clock station.old).seen }
+
+    // The turns of the lines are made. At each moment a stop leaves sides that hold the state after some of them, and nothing of
+    // an entry's text is sent before the entry is kept.
+    ensures served { (taken : List ℕ) × Takes (record { tells = S.tells; before = S.left source.old; now = S.left source.new }) taken × ServeLeaves (course plan.now (papers_in papers.now) settings.now.side_limit fleet.old journal.old fleet.new journal.new T.tells (T.clock station.old) (T.clock station.new)) settings.now.input_limit taken (S.last source.new) (record { tells = S.tells; before = S.left source.old; now = S.left source.new }) result }
     ensures rules { IsFleetState graph.now fleet.new }
-    ensures sides { T.tells → IsSending (T.clock station.old) (T.clock station.new) }
+
+    // Except after a fault of the station, station and journal are at rest where they were.
+    ensures rests { T.tells → (IsErrOf result ServeFault.Station → ⊥) → IsAtRest plan.now (papers_in papers.now) journal.old fleet.old (T.clock station.old) → IsAtRest plan.now (papers_in papers.now) journal.new fleet.new (T.clock station.new) }
     ensures source_counted { Counted (S.counts source.old) (S.counts source.new) }
     ensures source_cause { IsErrOf result ServeFault.Read → IsToBlame (S.counts source.old) (S.counts source.new) }
     ensures station_counted { Counted (T.counts station.old) (T.counts station.new) }
@@ -52,7 +64,8 @@ pub fn serve<S: Source, T: Station>(
             Ok(count) => {
                 let bytes = &room[..count];
                 match hear_all(
-                    alloc, graph, plan, fleet, kit, settings, &mut kept, bytes, station,
+                    alloc, graph, plan, fleet, journal, kit, settings, papers, &mut kept, bytes,
+                    station,
                 ) {
                     Ok(()) => left -= count as u64,
                     Err(StepFault::Station) => return Err(ServeFault::Station),
@@ -87,8 +100,10 @@ fn hear_all<T: Station>(
     graph: &PlanGraph,
     plan: &SoundPlan,
     fleet: &mut Fleet,
+    journal: &mut Journal,
     kit: &mut Kit,
     settings: &Settings,
+    papers: &Papers<'_>,
     kept: &mut Text,
     bytes: &[u8],
     station: &mut T,
@@ -96,16 +111,18 @@ fn hear_all<T: Station>(
     requires graph { graph.now ≡ graph_of plan.now }
     requires state { IsFleetState graph.now fleet.old }
     requires short { length kept.old ≤ 258 }
-    ensures heard { (line : List ℕ) → IsUnfinished line → kept.old ≡ kept_of line → Hears (record { routes = plan.now; from = fleet.old; to = fleet.new }) line bytes.now kept.new (record { tells = T.tells; before = (T.clock station.old).seen.sent; now = (T.clock station.new).seen.sent }) result }
+    requires stands { T.tells → StandsWith plan.now (papers_in papers.now) journal.old fleet.old (T.clock station.old).seen }
+    ensures heard { (line : List ℕ) → IsUnfinished line → kept.old ≡ kept_of line → Hears (course plan.now (papers_in papers.now) settings.now.side_limit fleet.old journal.old fleet.new journal.new T.tells (T.clock station.old) (T.clock station.new)) line bytes.now kept.new result }
     ensures short { length kept.new ≤ 258 }
     ensures rules { IsFleetState graph.now fleet.new }
-    ensures sides { T.tells → IsSending (T.clock station.old) (T.clock station.new) }
+    ensures stands { T.tells → (IsErrOf result StepFault.Station → ⊥) → StandsWith plan.now (papers_in papers.now) journal.new fleet.new (T.clock station.new).seen }
+    ensures rests { T.tells → (IsErrOf result StepFault.Station → ⊥) → IsAtRest plan.now (papers_in papers.now) journal.old fleet.old (T.clock station.old) → IsAtRest plan.now (papers_in papers.now) journal.new fleet.new (T.clock station.new) }
     ensures counted { Counted (T.counts station.old) (T.counts station.new) }
     ensures cause { IsErrOf result StepFault.Station → IsToBlame (T.counts station.old) (T.counts station.new) }
 {
     for byte in bytes {
         hear_byte(
-            alloc, graph, plan, fleet, kit, settings, kept, *byte, station,
+            alloc, graph, plan, fleet, journal, kit, settings, papers, kept, *byte, station,
         )?;
     }
     Ok(())
@@ -117,8 +134,10 @@ fn hear_byte<T: Station>(
     graph: &PlanGraph,
     plan: &SoundPlan,
     fleet: &mut Fleet,
+    journal: &mut Journal,
     kit: &mut Kit,
     settings: &Settings,
+    papers: &Papers<'_>,
     kept: &mut Text,
     byte: u8,
     station: &mut T,
@@ -126,10 +145,12 @@ fn hear_byte<T: Station>(
     requires graph { graph.now ≡ graph_of plan.now }
     requires state { IsFleetState graph.now fleet.old }
     requires short { length kept.old ≤ 258 }
-    ensures heard { (line : List ℕ) → IsUnfinished line → kept.old ≡ kept_of line → Hears (record { routes = plan.now; from = fleet.old; to = fleet.new }) line (byte ∷ []) kept.new (record { tells = T.tells; before = (T.clock station.old).seen.sent; now = (T.clock station.new).seen.sent }) result }
+    requires stands { T.tells → StandsWith plan.now (papers_in papers.now) journal.old fleet.old (T.clock station.old).seen }
+    ensures heard { (line : List ℕ) → IsUnfinished line → kept.old ≡ kept_of line → Hears (course plan.now (papers_in papers.now) settings.now.side_limit fleet.old journal.old fleet.new journal.new T.tells (T.clock station.old) (T.clock station.new)) line (byte ∷ []) kept.new result }
     ensures short { length kept.new ≤ 258 }
     ensures rules { IsFleetState graph.now fleet.new }
-    ensures sides { T.tells → IsSending (T.clock station.old) (T.clock station.new) }
+    ensures stands { T.tells → (IsErrOf result StepFault.Station → ⊥) → StandsWith plan.now (papers_in papers.now) journal.new fleet.new (T.clock station.new).seen }
+    ensures rests { T.tells → (IsErrOf result StepFault.Station → ⊥) → IsAtRest plan.now (papers_in papers.now) journal.old fleet.old (T.clock station.old) → IsAtRest plan.now (papers_in papers.now) journal.new fleet.new (T.clock station.new) }
     ensures counted { Counted (T.counts station.old) (T.counts station.new) }
     ensures cause { IsErrOf result StepFault.Station → IsToBlame (T.counts station.old) (T.counts station.new) }
 {
@@ -140,7 +161,9 @@ fn hear_byte<T: Station>(
         };
     }
     let line = trimmed(kept.as_slice());
-    step(alloc, graph, plan, fleet, kit, settings, line, station)?;
+    step(
+        alloc, graph, plan, fleet, journal, kit, settings, papers, line, station,
+    )?;
     *kept = Text::new(alloc);
     Ok(())
 }

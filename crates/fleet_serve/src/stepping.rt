@@ -1,129 +1,106 @@
 // The turn of one report line.
-ghost use Rattle.std.specs.Prelude.{◌≡◌, ◌^◌, ◌<◌, ◌≤◌, ◌∷◌, [], ℕ, length, IfOk, OnOk, OnErr, IsErrOf};
+ghost use Rattle.std.specs.Prelude.{◌≡◌, ◌^◌, ◌<◌, length, Err, IfOk, IfErr, IsErrOf};
 ghost use Rattle.fleet_base.specs.Order.{graph_of};
 ghost use Rattle.fleet_base.specs.Rules.{IsFleetState};
 ghost use Rattle.station_api.specs.Causes.{Counted, IsToBlame};
-ghost use Rattle.station_api.specs.Disk.{IsSending};
-ghost use Rattle.report_text.specs.ReportLine.{IsReportLine};
-ghost use Rattle.fleet_core.specs.declared.judging.Judged.TheVariants.{Accept};
-ghost use Rattle.fleet_core.specs.Judgement.{judgement_of};
-ghost use Rattle.fleet_serve.specs.Lines.{text_of};
-ghost use Rattle.fleet_serve.specs.Told.{Told};
-ghost use Rattle.report_text.specs.declared.answer.Answer.TheVariants as answer;
-ghost use Rattle.report_text.specs.AnswerLine.{answer_line};
-ghost use Rattle.fleet_serve.specs.Turns.{TurnMade, Enters};
-ghost use Rattle.fleet_serve.specs.Serving.{StepLeaves, Makes, TurnEnds};
+ghost use Rattle.fleet_recovery.specs.Opening.{StandsWith, IsAtRest};
+ghost use Rattle.fleet_serve.specs.Serving.{StepLeaves, course, papers_in};
+ghost use Rattle.fleet_serve.specs.Deciding.{IsReady};
 
-use crate::answering::{entry_text, line_text};
+use crate::deciding::{Decision, decide};
+use crate::keeping::keep;
 use crate::kit::Kit;
 use crate::outcome::{Settings, StepFault, Turn};
+use crate::papers::Papers;
 use crate::sending::send_all;
-use fleet_base::{Fleet, Memory, PairList, Report, SoundPlan, Text, Why};
-use fleet_core::{Judged, apply, judge, prepare};
+use fleet_base::{Fleet, SoundPlan};
+use fleet_journal::Journal;
 use plan_graph::PlanGraph;
-use report_text::{Answer, read_report};
 use station_api::Station;
 use std::alloc::Global;
 
-/// The greatest number of a report.
-const LAST_COUNT: u64 = 1 << 62;
-
-/// Answers one report line: judges it, makes its entry and the text of its answer, applies the entry and sends the text. All
-/// memory is taken before anything changes or is sent, so for want of memory all is as before.
+/// Answers one report line: judges it, sees whether there is room for its frame, makes its entry, the frame and the text of
+/// the answer, appends the frame to the journal, applies the entry, and then sends the text. All memory is taken before
+/// anything changes, is written or is sent, so for want of memory all is as before. After a fault of the station the session
+/// is over.
+///
+/// The journal stands at its closed gate, on the side taken, and the sides stand for the fleet.
 pub fn step<T: Station>(
     alloc: Global,
     graph: &PlanGraph,
     plan: &SoundPlan,
     fleet: &mut Fleet,
+    journal: &mut Journal,
     kit: &mut Kit,
-    _settings: &Settings,
+    settings: &Settings,
+    papers: &Papers<'_>,
     line: &[u8],
     station: &mut T,
 ) -> Result<Turn, StepFault>
     requires graph { graph.now ≡ graph_of plan.now }
     requires state { IsFleetState graph.now fleet.old }
     requires line { length line.now < 2 ^ 32 }
-    ensures turn { StepLeaves (record { routes = plan.now; from = fleet.old; to = fleet.new }) line.now (record { tells = T.tells; before = (T.clock station.old).seen.sent; now = (T.clock station.new).seen.sent }) result }
+    requires stands { T.tells → StandsWith plan.now (papers_in papers.now) journal.old fleet.old (T.clock station.old).seen }
+
+    // The turn of the line is made. At each moment a stop leaves sides that hold the state before the turn or after it, and
+    // nothing of an entry's text is sent before the entry is kept.
+    ensures turn { StepLeaves (course plan.now (papers_in papers.now) settings.now.side_limit fleet.old journal.old fleet.new journal.new T.tells (T.clock station.old) (T.clock station.new)) line.now result }
     ensures rules { IsFleetState graph.now fleet.new }
-    ensures sides { T.tells → IsSending (T.clock station.old) (T.clock station.new) }
+
+    // Except after a fault of the station, the sides stand for the fleet, and station and journal are at rest where they were.
+    ensures stands { T.tells → (IsErrOf result StepFault.Station → ⊥) → StandsWith plan.now (papers_in papers.now) journal.new fleet.new (T.clock station.new).seen }
+    ensures rests { T.tells → (IsErrOf result StepFault.Station → ⊥) → IsAtRest plan.now (papers_in papers.now) journal.old fleet.old (T.clock station.old) → IsAtRest plan.now (papers_in papers.now) journal.new fleet.new (T.clock station.new) }
+
+    // For want of memory all is as before.
+    ensures memory { IsErrOf result StepFault.Memory → station.new ≡ station.old }
+    ensures same_journal { IsErrOf result StepFault.Memory → journal.new ≡ journal.old }
     ensures counted { Counted (T.counts station.old) (T.counts station.new) }
     ensures cause { IsErrOf result StepFault.Station → IsToBlame (T.counts station.old) (T.counts station.new) }
-    ensures memory { IsErrOf result StepFault.Memory → station.new ≡ station.old }
 {
-    let Ok(turn) = take_turn(alloc, graph, plan, fleet, kit, line) else {
-        return Err(StepFault::Memory);
-    };
+    let turn = take_turn(
+        alloc, graph, plan, fleet, journal, kit, settings, papers, line, station,
+    )?;
     match send_all(station, kit.text.as_slice()) {
         Ok(()) => Ok(turn),
         Err(_) => Err(StepFault::Station),
     }
 }
 
-/// Makes the turn of a line and the text of its answer. For want of memory the fleet is as before.
-fn take_turn(
+/// Makes the turn of a report line, but does not send its text.
+fn take_turn<T: Station>(
     alloc: Global,
     graph: &PlanGraph,
     plan: &SoundPlan,
     fleet: &mut Fleet,
+    journal: &mut Journal,
     kit: &mut Kit,
+    settings: &Settings,
+    _papers: &Papers<'_>,
     line: &[u8],
-) -> Result<Turn, Memory>
+    station: &mut T,
+) -> Result<Turn, StepFault>
     requires graph { graph.now ≡ graph_of plan.now }
     requires state { IsFleetState graph.now fleet.old }
     requires line { length line.now < 2 ^ 32 }
-    ensures turn { IfOk result (λ said. (turn : TurnMade) × Makes (record { routes = plan.now; from = fleet.old; to = fleet.new }) line.now turn × TurnEnds turn said × (kit.new ≡ text_of turn.answer)) }
-    ensures memory { OnErr result (fleet.new ≡ fleet.old) }
+    requires stands { T.tells → StandsWith plan.now (papers_in _papers.now) journal.old fleet.old (T.clock station.old).seen }
+    ensures ready { IfOk result (IsReady plan.now (papers_in _papers.now) settings.now.side_limit fleet.old fleet.new journal.old journal.new T.tells (T.clock station.old) (T.clock station.new) line.now kit.new) }
+    ensures broken { IfErr result (λ fault. StepLeaves (course plan.now (papers_in _papers.now) settings.now.side_limit fleet.old journal.old fleet.new journal.new T.tells (T.clock station.old) (T.clock station.new)) line.now (Err fault)) }
     ensures rules { IsFleetState graph.now fleet.new }
+    ensures memory { IsErrOf result StepFault.Memory → station.new ≡ station.old }
+    ensures same_journal { IsErrOf result StepFault.Memory → journal.new ≡ journal.old }
+    ensures counted { Counted (T.counts station.old) (T.counts station.new) }
+    ensures cause { IsErrOf result StepFault.Station → IsToBlame (T.counts station.old) (T.counts station.new) }
 {
-    let Ok(report) = read_report(line) else {
-        return refuse(alloc, kit, Why::Line);
-    };
-    match judge(graph, fleet, &report) {
-        Judged::Known => {
-            kit.text = line_text(alloc, Answer::Known)?;
-            Ok(Turn::Known)
+    match decide(alloc, graph, plan, fleet, journal, kit, settings, line) {
+        Ok(Decision::Say(turn)) => Ok(turn),
+        Ok(Decision::Keep { entry, frame }) => {
+            match keep(fleet, journal, station, &entry, &frame) {
+                Ok(()) => Ok(Turn::Done {
+                    count: fleet.count(),
+                }),
+                Err(_) => Err(StepFault::Station),
+            }
         }
-        Judged::Refused(why) => refuse(alloc, kit, why),
-        Judged::Accept if fleet.count() >= LAST_COUNT => refuse(alloc, kit, Why::Full),
-        Judged::Accept => enter(alloc, graph, plan, fleet, kit, &report),
+        Err(_) => Err(StepFault::Memory),
     }
-}
-
-/// Makes the text of a refusal.
-fn refuse(alloc: Global, kit: &mut Kit, why: Why) -> Result<Turn, Memory>
-    ensures said { IfOk result (λ said. said ≡ Turn.Refused why) }
-    ensures text { OnOk result (kit.new ≡ text_of (answer_line (answer.Refused why) ∷ [])) }
-{
-    kit.text = line_text(alloc, Answer::Refused(why))?;
-    Ok(Turn::Refused(why))
-}
-
-/// Makes the entry of an accepted report and the text of its answer, and applies the entry. For want of memory the fleet is
-/// as before.
-fn enter(
-    alloc: Global,
-    graph: &PlanGraph,
-    plan: &SoundPlan,
-    fleet: &mut Fleet,
-    kit: &mut Kit,
-    report: &Report,
-) -> Result<Turn, Memory>
-    requires graph { graph.now ≡ graph_of plan.now }
-    requires state { IsFleetState graph.now fleet.old }
-    requires accepted { judgement_of fleet.old report.now ≡ Accept }
-    requires count { fleet.old.count < 2 ^ 62 }
-    ensures turn { IfOk result (λ said. (turn : TurnMade) × Enters graph.now plan.now fleet.old report.now turn × (turn.state ≡ fleet.new) × TurnEnds turn said × (kit.new ≡ text_of turn.answer)) }
-    ensures memory { OnErr result (fleet.new ≡ fleet.old) }
-    ensures rules { IsFleetState graph.now fleet.new }
-{
-    // What is released is on the routes of the plan, which are sound.
-    let _robots = plan.robots();
-    // No pair is switched, so no choice is refused.
-    let Ok(entry) = prepare(alloc, graph, fleet, report, &PairList::new(alloc)) else {
-        return Err(Memory);
-    };
-    let count = fleet.count() + 1;
-    kit.text = entry_text(alloc, plan, entry.releases.as_slice(), count)?;
-    apply(fleet, &entry);
-    Ok(Turn::Done { count })
 }

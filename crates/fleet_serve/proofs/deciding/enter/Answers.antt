@@ -4,11 +4,11 @@ use Rattle.fleet_base.specs.declared.geometry.Visit.{Visit}
 use Rattle.fleet_base.specs.Order.{Graph}
 use Rattle.fleet_base.specs.Plan.{IsOnRoute}
 use Rattle.fleet_base.specs.Rules.{IsFleetState}
-use Rattle.fleet_core.specs.Step.{heard_of}
+use Rattle.fleet_core.specs.Step.{Step, heard_of}
 use Rattle.fleet_core.proofs.Delaying.{step_keeps_rules}
 use Rattle.fleet_serve.proofs.Texts.{new_on_route}
-use Rattle.fleet_serve.proofs.TurnLaws.{entering}
-use Rattle.fleet_serve.proofs.stepping.enter.Goals as goal
+use Rattle.fleet_serve.proofs.Decided.{entering}
+use Rattle.fleet_serve.proofs.deciding.enter.Goals as goal
 
 pub entry_text-requires : goal.entry_text-requires
 entry_text-requires c =
@@ -18,17 +18,10 @@ entry_text-requires c =
     subst (λ (vs : List Visit). All (λ v. IsOnRoute c.args.plan.now v) vs) (sym (c.as_slice.ensures ∙ s.1.releases_are))
     (new_on_route c.args.plan.now (heard_of c.args.fleet.now e.report) s.0 c.robots-robots.ensures.sound (subst (λ (g : Graph). IsFleetState g s.0) c.requires.graph rules))
 
-pub returns-clause-turn : goal.returns-clause-turn
-returns-clause-turn c =
+pub returns : goal.returns
+returns c place =
     let e = c.in-Ok.entry in
     let s = c.in-Ok.ensures.step in
-    let applied = c.apply.ensures c.args.graph.now s.0 c.requires.state s.1 in
-    let t = entering c.args.graph.now c.args.plan.now c.args.fleet.now s.0 c.args.report.now e c.as_slice.result.now c.count-count.result c.in_ok-kit-inside.field-0
-    c.in-Ok.ensures.report (c.in-Ok.ensures.switched ∙ c.new.ensures) s.1 c.as_slice.ensures c.count-count.ensures c.in_ok-kit-inside.ensures in
-    (t.0, t.1, t.2 ∙ sym applied, t.3, t.4)
-
-pub returns-clause-rules : goal.returns-clause-rules
-returns-clause-rules c =
-    let e = c.in-Ok.entry in
-    let s = c.in-Ok.ensures.step in
-    subst (IsFleetState c.args.graph.now) (sym (c.apply.ensures c.args.graph.now s.0 c.requires.state s.1)) (step_keeps_rules c.args.graph.now c.args.fleet.now e.report e.switched e.releases s.0 c.requires.state s.1)
+    let step = subst (λ (g : Graph). Step g c.args.fleet.now e.report e.switched e.releases s.0) c.requires.graph s.1 in
+    entering c.args.plan.now c.args.fleet.now place s.0 c.args.report.now e c.in_ok-frame.frame c.as_slice.result.now c.count-count.result c.in_ok-kit-inside.field-0
+    c.in-Ok.ensures.report (c.in-Ok.ensures.switched ∙ c.new-switched.ensures) step c.in_ok-frame.ensures c.as_slice.ensures c.count-count.ensures c.in_ok-kit-inside.ensures
