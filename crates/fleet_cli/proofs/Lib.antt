@@ -1,4 +1,13 @@
+pub mod Exclusion
+pub mod LivesBeside
+pub mod LivesCalls
+pub mod LivesHeld
+pub mod LivesJoining
+pub mod LivesMarks
+pub mod LivesMoments
+pub mod LivesReports
+pub mod Opening
 pub mod Pieces
 pub mod Reasons
-pub mod Exclusion
+pub mod RunSessions
 pub mod Running

@@ -9,16 +9,17 @@ use Rattle.fleet_cli.specs.declared.words.Command.TheVariants.{Check}
 use Rattle.fleet_cli.specs.Words.{IsCommand}
 use Rattle.fleet_cli.specs.Papers.{Files, IsSoundPaper}
 use Rattle.fleet_cli.specs.Causes.{IsCause}
+use Rattle.fleet_recovery.specs.Papers.{Papers}
 use Rattle.fleet_cli.specs.Lines.{fault_line, status_of, sound_line}
 
--- the words ask for this command on a plan that is sound, with these routes
-pub record IsAsked (files : Files) (words : List (List ℕ)) (command : Command) (routes : List (List PlannedVisit)) : Type 0 where
+-- the words ask for this command on a plan that is sound, with these routes, and these are the bytes of its files
+pub record IsAsked (files : Files) (words : List (List ℕ)) (command : Command) (papers : Papers) (routes : List (List PlannedVisit)) : Type 0 where
   pub map_name : List ℕ
   pub plan_name : List ℕ
   pub words_are : IsCommand words command map_name plan_name
-  pub sound : IsSoundPaper files map_name plan_name routes
+  pub sound : IsSoundPaper files map_name plan_name papers routes
 
 -- the words and the files make this the one line of a call, with this status: a plan is checked, or there is a refusal
 abbrev pub IsDue : Files → Type 0 → List (List ℕ) → Status → List ℕ → Type 0
-IsDue files failed words end line = ((end ≡ Done) × ((routes : List (List PlannedVisit)) × IsAsked files words Check routes × (line ≡ sound_line routes)))
+IsDue files failed words end line = ((end ≡ Done) × ((papers : Papers) × (routes : List (List PlannedVisit)) × IsAsked files words Check papers routes × (line ≡ sound_line routes)))
     ⊎ ((fault : Fault) × IsCause files failed words fault × (end ≡ status_of fault) × (line ≡ fault_line fault))

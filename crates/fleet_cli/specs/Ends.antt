@@ -3,12 +3,16 @@ use Rattle.std.specs.Prelude.{ℕ, ◌⊎◌, List, [], ◌∷◌, ◌++◌}
 use Rattle.fleet_base.specs.declared.geometry.PlannedVisit.{PlannedVisit}
 use Rattle.fleet_base.specs.declared.status.Status.{Status}
 use Rattle.fleet_base.specs.declared.status.Status.TheVariants.{Done, Usage, Input, Journal, ReadFault, StationFault, Memory, Limit}
+use Rattle.fleet_base.specs.State.{FleetState}
+use Rattle.fleet_recovery.specs.Papers.{Papers}
+use Rattle.fleet_recovery.specs.Image.{StandsFor}
+use Rattle.station_api.specs.Scene.{Scene}
 use Rattle.fleet_serve.specs.Told.{Sends, SendsPart, Takes}
 use Rattle.fleet_cli.specs.declared.words.Command.{Command}
 use Rattle.fleet_cli.specs.declared.words.Command.TheVariants.{Check, Run}
 use Rattle.fleet_cli.specs.Papers.{Files}
 use Rattle.fleet_cli.specs.Due.{IsAsked, IsDue}
-use Rattle.fleet_cli.specs.Runs.{Talk, RunEnds}
+use Rattle.fleet_cli.specs.Runs.{Talk, sent_on, SidesStay, RunEnds, IsRunSession}
 
 -- all that a call of the program is handed and leaves: its words, the files and whether the shelf failed, and its talk
 pub record Call : Type 1 where
@@ -23,7 +27,7 @@ IsLine call end line = IsDue call.files call.shelf_failed call.words end line
 
 -- the line that is due was sent whole
 abbrev pub SaysLine : Call → Status → Type 0
-SaysLine call end = (line : List ℕ) × IsLine call end line × Sends call.talk.sent (line ++ 10 ∷ [])
+SaysLine call end = (line : List ℕ) × IsLine call end line × Sends (sent_on call.talk.line) (line ++ 10 ∷ [])
 
 -- How a call ends that has one line to say. After want of memory it has sent nothing; after a fault of the station, some front of
 -- the line that is due; else the whole line.
@@ -33,13 +37,34 @@ LineEnds call Usage = SaysLine call Usage
 LineEnds call Input = SaysLine call Input
 LineEnds call Journal = ⊥
 LineEnds call ReadFault = SaysLine call ReadFault
-LineEnds call StationFault = call.talk.station_failed × ((end : Status) × (line : List ℕ) × IsLine call end line × SendsPart call.talk.sent [] (line ++ 10 ∷ []))
-LineEnds call Memory = Sends call.talk.sent []
+LineEnds call StationFault = call.talk.line.failed × ((end : Status) × (line : List ℕ) × IsLine call end line × SendsPart (sent_on call.talk.line) [] (line ++ 10 ∷ []))
+LineEnds call Memory = Sends (sent_on call.talk.line) []
 LineEnds call Limit = ⊥
 
--- how a call ends: it says one line and takes no input, or it is a run of a sound plan
+-- the command is a run
+abbrev pub Runs : Command → Type 0
+Runs Check = ⊥
+Runs (Run journal) = Unit {0}
+
+-- a call that has one line to say takes no input, and the sides stay as they are
+pub record IsLineCall (call : Call) (end : Status) : Type 0 where
+  pub takes : Takes call.talk.input []
+  pub stay : SidesStay call.talk.line
+  pub ends : LineEnds call end
+
+-- A call that runs a sound plan: how it ends, and that it is a session.
+pub record IsRunCall (call : Call) (end : Status) : Type 0 where
+  pub command : Command
+  pub runs : Runs command
+  pub papers : Papers
+  pub routes : List (List PlannedVisit)
+  pub asked : IsAsked call.files call.words command papers routes
+  pub ends : RunEnds routes papers call.talk end
+  pub session : IsRunSession routes papers call.talk
+
+-- how a call ends: it says one line, or it is a run of a sound plan
 abbrev pub EndsAs : Call → Status → Type 0
-EndsAs call end = (Takes call.talk.input [] × LineEnds call end) ⊎ ((routes : List (List PlannedVisit)) × IsAsked call.files call.words Run routes × RunEnds routes call.talk end)
+EndsAs call end = IsLineCall call end ⊎ IsRunCall call end
 
 -- a command ends well, at the limit of input, or for want of memory
 abbrev pub IsSmooth : Command → Status → Type 0
@@ -51,4 +76,9 @@ IsSmooth command ReadFault = ⊥
 IsSmooth command StationFault = ⊥
 IsSmooth command Memory = Unit {0}
 IsSmooth Check Limit = ⊥
-IsSmooth Run Limit = Unit {0}
+IsSmooth (Run journal) Limit = Unit {0}
+
+-- the sides are told and stand for a state, if the command is a run
+abbrev pub MayOpen : Command → List (List PlannedVisit) → Papers → Type 0 → Scene → Type 0
+MayOpen Check routes papers tells scene = Unit {0}
+MayOpen (Run journal) routes papers tells scene = tells × ((x : FleetState) × StandsFor routes papers scene x)

@@ -1,9 +1,12 @@
-pub mod Words
-pub mod Papers
 pub mod Causes
-pub mod Lines
 pub mod Due
-pub mod Runs
-pub mod Tasks
 pub mod Ends
 pub mod Fetching
+pub mod Lines
+pub mod Lives
+pub mod Papers
+pub mod Refusing
+pub mod Runs
+pub mod Sessions
+pub mod Tasks
+pub mod Words

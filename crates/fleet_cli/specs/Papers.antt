@@ -5,8 +5,10 @@ use Rattle.fleet_base.specs.declared.geometry.PlannedVisit.{PlannedVisit}
 use Rattle.fleet_base.specs.Grid.{OccupancyGrid}
 use Rattle.fleet_base.specs.Plan.{IsAccepted, visits_of}
 use Rattle.fleet_base.specs.Pairs.{pairs_of}
+use Rattle.fleet_recovery.specs.Papers.{Papers}
 use Rattle.map_text.specs.MapText.{IsMapText}
 use Rattle.plan_text.specs.PlanText.{IsPlanText}
+use Rattle.fleet_cli.specs.declared.papers.Papers.{Papers as SoundPapers}
 
 -- the files of a shelf, and whether it tells them
 pub record Files : Type 1 where
@@ -48,7 +50,13 @@ pub record HasRoutes (files : Files) (map_name plan_name : List ℕ) (routes : L
   pub accepted : IsAccepted grid plan
   pub visits : routes ≡ visits_of plan
 
--- the plan of these files is accepted, with these routes, and has few enough pairs
-pub record IsSoundPaper (files : Files) (map_name plan_name : List ℕ) (routes : List (List PlannedVisit)) : Type 0 where
-  pub papers : HasRoutes files map_name plan_name routes
+-- the bytes that were read
+abbrev pub bytes_of : SoundPapers → Papers
+bytes_of papers = record { map = papers.map.items; plan = papers.text.items }
+
+-- the plan of these files is accepted, with these routes, and has few enough pairs; these are the bytes of both files
+pub record IsSoundPaper (files : Files) (map_name plan_name : List ℕ) (papers : Papers) (routes : List (List PlannedVisit)) : Type 0 where
+  pub has : HasRoutes files map_name plan_name routes
   pub few : length (pairs_of routes) ≤ 1048576
+  pub map_is : papers.map ≡ has.papers.on.bytes
+  pub plan_is : papers.plan ≡ has.papers.bytes

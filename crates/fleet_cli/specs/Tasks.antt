@@ -11,13 +11,13 @@ use Rattle.fleet_cli.specs.declared.task.Task.{Task}
 use Rattle.fleet_cli.specs.declared.task.Task.TheVariants.{Say, Serve}
 use Rattle.fleet_cli.specs.declared.words.Command.{Command}
 use Rattle.fleet_cli.specs.declared.words.Command.TheVariants.{Run}
-use Rattle.fleet_cli.specs.Papers.{Files}
+use Rattle.fleet_cli.specs.Papers.{Files, bytes_of}
 use Rattle.fleet_cli.specs.Causes.{IsCause}
 use Rattle.fleet_cli.specs.Due.{IsAsked, IsDue}
 
 -- the words ask for this command on these papers
 abbrev pub AsksFor : Files → List (List ℕ) → Command → SoundPapers → Type 0
-AsksFor files words command papers = IsAsked files words command papers.plan × (papers.pairs ≡ pairs_of papers.plan)
+AsksFor files words command papers = IsAsked files words command (bytes_of papers) papers.plan × (papers.pairs ≡ pairs_of papers.plan)
 
 -- the words and the files call for this refusal; want of memory is free
 abbrev pub IsCalledFor : Files → Type 0 → List (List ℕ) → Refusal → Type 0
@@ -27,7 +27,7 @@ IsCalledFor files failed words Memory = Unit {0}
 -- the line that is due is to be said, or the plan is to be run
 abbrev pub IsTask : Files → Type 0 → List (List ℕ) → Task → Type 0
 IsTask files failed words (Say reply) = (line : List ℕ) × IsDue files failed words reply.status line × (reply.text ≡ line ++ 10 ∷ [])
-IsTask files failed words (Serve papers) = AsksFor files words Run papers
+IsTask files failed words (Serve papers journal) = AsksFor files words (Run journal) papers
 
 -- a text was sent whole, and the status is this one; or the station failed
 abbrev pub EndsWith : Status → List ℕ → Told → Type 0 → Status → Type 0

@@ -1,25 +1,94 @@
 // Laws over the definitions. Each function does nothing: its contract is the law.
-ghost use Rattle.std.specs.Prelude.{ℕ, List, [], Option};
+ghost use Rattle.std.specs.Prelude.{ℕ, List, [], Option, ◌≡◌, ◌⊎◌, ◌<◌, ◌^◌, ◌∷◌, Contains};
 ghost use Rattle.fleet_base.specs.declared.geometry.PlannedVisit.{PlannedVisit};
 ghost use Rattle.fleet_cli.specs.declared.fault.Fault.{Fault};
 ghost use Rattle.fleet_cli.specs.declared.words.Command.{Command};
 ghost use Rattle.fleet_cli.specs.Causes.{IsCause};
 ghost use Rattle.fleet_cli.specs.Due.{IsAsked};
 ghost use Rattle.fleet_base.specs.Plan.{AreRoutes};
-ghost use Rattle.fleet_base.specs.World.{World, Event, AlwaysTrue, Run, NoCollision};
-ghost use Rattle.fleet_serve.specs.Marks.{AreSessionMarks, IsStart};
-ghost use Rattle.fleet_cli.specs.Runs.{IsSession};
+ghost use Rattle.fleet_base.specs.World.{World, Event, Run, NoCollision};
+ghost use Rattle.fleet_base.specs.declared.report.Report.{Report};
+ghost use Rattle.fleet_base.specs.Bytes.{whole_lines};
+ghost use Rattle.fleet_base.specs.Order.{graph_of};
+ghost use Rattle.fleet_base.specs.Release.{IsFirstState};
+ghost use Rattle.fleet_base.specs.State.{FleetState};
+ghost use Rattle.report_text.specs.declared.answer.Answer.TheVariants.{Done};
+ghost use Rattle.report_text.specs.AnswerLine.{answer_line};
+ghost use Rattle.fleet_serve.specs.Lines.{greeting_of, text_of};
+ghost use Rattle.fleet_cli.specs.Lives.{SessionMade, MayBegin, IsLife, IsBeside, IsAnswered, IsEverAnswered, HoldsAs, IsStateOf, IsStateAfter, AreAmong, sent_of};
+ghost use Rattle.fleet_recovery.specs.Papers.{Papers};
+ghost use Rattle.fleet_cli.specs.Sessions.{IsSession, AllStand, KeepsSides, IsSeen, AreSeen, MayGoOn, HasEmptySides, Joins, session_of};
+
+use station_api::Station;
 
 /// Over files that are told, a plan that is sound is not refused, unless the shelf failed.
 pub fn a_sound_plan_is_not_refused()
-    ensures { (file : List ℕ → Option (List ℕ)) (words : List (List ℕ)) (command : Command) (routes : List (List PlannedVisit)) (fault : Fault) →
-        IsAsked (record { tells = Unit {0}; file = file }) words command routes → IsCause (record { tells = Unit {0}; file = file }) ⊥ words fault → ⊥ }
+    ensures { (file : List ℕ → Option (List ℕ)) (words : List (List ℕ)) (command : Command) (papers : Papers) (routes : List (List PlannedVisit)) (fault : Fault) →
+        IsAsked (record { tells = Unit {0}; file = file }) words command papers routes → IsCause (record { tells = Unit {0}; file = file }) ⊥ words fault → ⊥ }
 {}
 
-/// No two robots occupy one cell, at any point of a world beside a run of a plan: robots begin a move only to a visit that a
-/// whole line sent releases, and what was reported is true. Whatever bytes the run takes, it is the session over their lines
-/// that the top call speaks of, and a mark of it has any front of what the session sends.
-pub fn no_collision_beside_a_run()
-    ensures { (routes : List (List PlannedVisit)) (bytes : List ℕ) → AreRoutes routes → (s : IsSession routes bytes) →
-        (w : World) (es : List Event) (w' : World) → IsStart routes s.start w → AreSessionMarks routes s.start s.turns 0 es → AlwaysTrue w es → Run routes [] w es w' → NoCollision routes w' }
+/// A new journal opens: there is a life of one session that has sent the greeting of the first state.
+pub fn a_new_journal_opens()
+    ensures { (routes : List (List PlannedVisit)) (limit : ℕ) (x : FleetState) → IsFirstState (graph_of routes) x → (s : SessionMade) × (s.limit ≡ limit) × IsLife routes (s ∷ []) × (sent_of s ≡ text_of (greeting_of routes x)) }
+{}
+
+/// In every world beside a life whose reports are true, no two robots occupy one cell, at any point. A life may end at any event,
+/// so this holds of each moment of each of its sessions.
+pub fn no_collision_beside_a_life()
+    ensures { (routes : List (List PlannedVisit)) → AreRoutes routes → (s : SessionMade) (earlier : List SessionMade) → IsLife routes (s ∷ earlier) → (w : World) → IsBeside routes (s ∷ earlier) w → NoCollision routes w }
+{}
+
+/// Where a session may begin, each report that was ever answered is held, as the number that the answer gave it.
+pub fn what_was_answered_is_held()
+    ensures { (routes : List (List PlannedVisit)) → AreRoutes routes → (life : List SessionMade) → IsLife routes life → (x : FleetState) (held : List Report) → MayBegin routes life x held
+        → (n : ℕ) (report : Report) → IsEverAnswered life n report → HoldsAs held n report }
+{}
+
+/// A session begins in a state of the session before, or in one in which that session might have begun.
+pub fn a_session_begins_where_the_last_stood()
+    ensures { (routes : List (List PlannedVisit)) (s : SessionMade) (before : SessionMade) (earlier : List SessionMade) → IsLife routes (s ∷ before ∷ earlier)
+        → IsStateOf before s.start.state s.held ⊎ MayBegin routes earlier s.start.state s.held }
+{}
+
+/// Each `ok` line that a session sends answers a report that it accepted.
+pub fn an_ok_line_answers_a_report()
+    ensures { (routes : List (List PlannedVisit)) → AreRoutes routes → (s : SessionMade) (earlier : List SessionMade) → IsLife routes (s ∷ earlier)
+        → (n : ℕ) → n < 2 ^ 64 → Contains (whole_lines (sent_of s)) (answer_line (Done n)) → (report : Report) × IsAnswered s n report }
+{}
+
+/// Where a session may begin, the state is the one to which the reports that it holds lead from the first state of the plan.
+pub fn a_state_is_that_of_its_reports()
+    ensures { (routes : List (List PlannedVisit)) (life : List SessionMade) → IsLife routes life → (x : FleetState) (held : List Report) → MayBegin routes life x held → IsStateAfter routes held x }
+{}
+
+/// Robots that also read texts of other commands, which begin no line with `release`, move as if they had not. So a life goes on
+/// across a call of another command: what such a call sends stands in no mark, since a mark has the bytes of its own session alone.
+pub fn other_commands_move_no_robot()
+    ensures { (routes : List (List PlannedVisit)) (texts more : List (List ℕ)) → AreAmong more texts → (w : World) (es : List Event) (w' : World) → Run routes more w es w' → Run routes texts w es w' }
+{}
+
+/// Two empty sides begin a life.
+pub fn empty_sides_begin_a_life()
+    ensures { (routes : List (List PlannedVisit)) (papers : Papers) → MayGoOn routes papers [] HasEmptySides }
+{}
+
+/// A call that is a session, on what a life may have left, is the next session of that life, with any marks of what stops in it
+/// may have left; and what it leaves may begin the session after it.
+pub fn a_call_joins_a_life<T: Station>(old: &T, new: &T)
+    ensures { (routes : List (List PlannedVisit)) → AreRoutes routes → (papers : Papers) (limit : ℕ) (lines : List (List ℕ)) (call : IsSession routes papers limit lines (T.clock old.now) (T.clock new.now))
+        → (earlier : List SessionMade) → MayGoOn routes papers earlier (T.clock old.now).may_leave
+        → (first : FleetState) (events : List Event) → IsSeen routes papers (T.clock old.now) (T.clock new.now) (record { state = first; sent = [] }) → AreSeen routes papers (T.clock old.now) (T.clock new.now) [] events
+        → (held : List Report) × Joins routes papers (T.clock old.now) (T.clock new.now) earlier (session_of limit call.start call.turns held first events) }
+{}
+
+/// At each moment of a session the sides stand for a state, if they did as it began.
+pub fn a_session_keeps_a_state<T: Station>(old: &T, new: &T)
+    ensures { (routes : List (List PlannedVisit)) (papers : Papers) (limit : ℕ) (lines : List (List ℕ)) → IsSession routes papers limit lines (T.clock old.now) (T.clock new.now)
+        → AllStand routes papers (T.clock old.now).may_leave → AllStand routes papers ((T.clock new.now).left_since (T.clock old.now).moment) }
+{}
+
+/// A life goes on across a call of another command, ended or stopped at any moment: it keeps the sides.
+pub fn a_life_goes_on_across_another_command<T: Station>(old: &T, new: &T)
+    ensures { (routes : List (List PlannedVisit)) (papers : Papers) (life : List SessionMade) → KeepsSides (T.clock old.now) (T.clock new.now)
+        → MayGoOn routes papers life (T.clock old.now).may_leave → MayGoOn routes papers life ((T.clock new.now).left_since (T.clock old.now).moment) }
 {}

@@ -5,13 +5,11 @@ mod fault;
 pub mod laws;
 mod lines;
 mod papers;
+mod refusing;
+mod saying;
 mod session;
 mod task;
-#[cfg(test)]
-mod tests;
 mod top;
-#[cfg(test)]
-mod trials;
 mod words;
 mod writing;
 

@@ -6,7 +6,7 @@ ghost use Rattle.station_api.specs.Causes.{Counted, Rose};
 ghost use Rattle.map_text.specs.MapText.{IsMapText};
 ghost use Rattle.plan_text.specs.PlanText.{IsPlanText};
 ghost use Rattle.plan_check.specs.Faults.{HasRobots};
-ghost use Rattle.fleet_cli.specs.Papers.{Files, IsPaper, IsSoundPaper};
+ghost use Rattle.fleet_cli.specs.Papers.{Files, bytes_of, IsPaper, IsSoundPaper};
 ghost use Rattle.fleet_cli.specs.Fetching.{Counts, IsUnfetched, IsMapRefusal, IsPlanRefusal, IsUnsoundRefusal, IsPairsRefusal, HasReason};
 
 use crate::fault::{Fault, Paper, Refusal};
@@ -29,9 +29,11 @@ pub struct Sound {
     pub pairs: u64,
 }
 
-/// A plan that is sound on its map, with its pairs.
+/// The bytes of a map and of a plan that is sound on it, with the plan and its pairs.
 #[derive(Drop)]
 pub struct Papers {
+    pub map: Vec<u8>,
+    pub text: Vec<u8>,
     pub plan: SoundPlan,
     pub pairs: PairTable,
 }
@@ -43,18 +45,23 @@ pub fn read_papers<H: Shelf>(
     map_name: &str,
     plan_name: &str,
 ) -> Result<Papers, Refusal>
-    ensures sound { IfOk result (λ papers. IsSoundPaper (record { tells = H.tells; file = H.file shelf.old }) map_name.now plan_name.now papers.plan) }
+    ensures sound { IfOk result (λ papers. IsSoundPaper (record { tells = H.tells; file = H.file shelf.old }) map_name.now plan_name.now (bytes_of papers) papers.plan) }
     ensures pairs { IfOk result (λ papers. papers.pairs ≡ pairs_of papers.plan) }
     ensures refused { IfErr result (HasReason (record { tells = H.tells; file = H.file shelf.old }) (Rose (H.counts shelf.old).faults (H.counts shelf.new).faults) map_name.now plan_name.now) }
     ensures counted { Counted (H.counts shelf.old) (H.counts shelf.new) }
 {
-    let map_text = fetch(alloc, shelf, map_name, Paper::Map)?;
-    let grid = map_of(alloc, &map_text)?;
-    let plan_text = fetch(alloc, shelf, plan_name, Paper::Plan)?;
-    let raw = plan_of(alloc, &plan_text)?;
+    let map = fetch(alloc, shelf, map_name, Paper::Map)?;
+    let grid = map_of(alloc, &map)?;
+    let text = fetch(alloc, shelf, plan_name, Paper::Plan)?;
+    let raw = plan_of(alloc, &text)?;
     let plan = sound_plan(alloc, &grid, &raw)?;
     let pairs = pair_table(alloc, &plan)?;
-    Ok(Papers { plan, pairs })
+    Ok(Papers {
+        map,
+        text,
+        plan,
+        pairs,
+    })
 }
 
 /// Fetches a file, if it is not too long.

@@ -1,21 +1,30 @@
-// A run of a plan: its session, and the line that ends it.
-ghost use Rattle.std.specs.Prelude.{◌≡◌, ◌++◌, [], IfOk};
+// A run of a plan: its journal, its session, and the line that ends it.
+ghost use Rattle.std.specs.Prelude.{◌≡◌, ◌≤◌, ◌^◌, ℕ, List, ◌+◌, length, IfOk, IfErr, IsErrOf};
 ghost use Rattle.fleet_base.specs.Order.{graph_of};
 ghost use Rattle.fleet_base.specs.Pairs.{pairs_of};
-ghost use Rattle.fleet_base.specs.Release.{IsFirstState};
+ghost use Rattle.fleet_base.specs.Plan.{AreRoutes};
+ghost use Rattle.fleet_base.specs.State.{FleetState};
 ghost use Rattle.fleet_base.specs.Rules.{IsFleetState};
-ghost use Rattle.station_api.specs.Causes.{Counted, Rose};
-ghost use Rattle.station_api.specs.Disk.{IsSending};
+ghost use Rattle.station_api.specs.Clock.{LeavesOnly};
+ghost use Rattle.station_api.specs.Causes.{Counted, IsToBlame, Rose};
+ghost use Rattle.station_api.specs.Disk.{IsQuiet};
+ghost use Rattle.fleet_recovery.specs.Image.{IsImage, StandsFor};
+ghost use Rattle.fleet_recovery.specs.Answers.{RecoverRefuses, UnlessStation};
+ghost use Rattle.fleet_recovery.specs.Opening.{IsOpening, Opens, IsAtRest};
 ghost use Rattle.fleet_serve.specs.Told.{Told};
-ghost use Rattle.fleet_cli.specs.Runs.{Talk, RunEnds, input_limit};
-ghost use Rattle.fleet_cli.specs.Tasks.{EndsWith};
+ghost use Rattle.fleet_cli.specs.Papers.{bytes_of};
+ghost use Rattle.fleet_cli.specs.Runs.{Line, Talk, OpenEnds, RunEnds, IsRunSession, side_limit};
+ghost use Rattle.fleet_cli.specs.Sessions.{IsSession as IsSessionOver};
 
 use crate::papers::Papers;
-use fleet_base::{Fleet, Memory, Status};
-use fleet_core::first_state;
-use fleet_serve::{Kit, ServeFault, Settings, StepFault, greet, send_all, serve};
+use crate::refusing::refuse;
+use crate::saying::say;
+use fleet_base::{Fleet, Status};
+use fleet_journal::{Journal, JournalError};
+use fleet_recovery::{RecoverError, recover};
+use fleet_serve::{Kit, Papers as Texts, ServeFault, Settings, StepFault, greet, serve};
 use plan_graph::PlanGraph;
-use station_api::{Source, Station};
+use station_api::{AttachFault, Source, Station};
 use std::alloc::Global;
 
 /// What a run is set to.
@@ -31,50 +40,66 @@ const SETTINGS: Settings = Settings {
 struct Session {
     graph: PlanGraph,
     fleet: Fleet,
+    journal: Journal,
     kit: Kit,
 }
 
-/// Runs a plan: greets, and answers report lines until the input ends.
+/// Runs a plan with the journal of this name: opens the journal, or makes it, greets, and answers report lines until the
+/// input ends.
 pub fn run<S: Source, T: Station>(
     alloc: Global,
     papers: &Papers,
+    journal: &str,
     source: &mut S,
     station: &mut T,
 ) -> Status
-    requires { papers.now.pairs ≡ pairs_of papers.now.plan }
-    ensures ends { RunEnds papers.now.plan (record {
+    requires sound { AreRoutes papers.now.plan }
+    requires pairs { papers.now.pairs ≡ pairs_of papers.now.plan }
+    requires small_map { length papers.now.map.items ≤ 2 ^ 25 }
+    requires small_plan { length papers.now.text.items ≤ 2 ^ 25 }
+    ensures ends { RunEnds papers.now.plan (bytes_of papers.now) (record {
       input = record { tells = S.tells; before = S.left source.old; now = S.left source.new };
       last_read = S.last source.new;
       source_failed = Rose (S.counts source.old).faults (S.counts source.new).faults;
-      sent = record { tells = T.tells; before = (T.clock station.old).seen.sent; now = (T.clock station.new).seen.sent };
-      station_failed = Rose (T.counts station.old).faults (T.counts station.new).faults;
+      line = record { tells = T.tells; old = T.clock station.old; new = T.clock station.new; failed = Rose (T.counts station.old).faults (T.counts station.new).faults };
     }) result }
-    ensures sides { T.tells → IsSending (T.clock station.old) (T.clock station.new) }
+    ensures session { IsRunSession papers.now.plan (bytes_of papers.now) (record {
+      input = record { tells = S.tells; before = S.left source.old; now = S.left source.new };
+      last_read = S.last source.new;
+      source_failed = Rose (S.counts source.old).faults (S.counts source.new).faults;
+      line = record { tells = T.tells; old = T.clock station.old; new = T.clock station.new; failed = Rose (T.counts station.old).faults (T.counts station.new).faults };
+    }) }
     ensures source { Counted (S.counts source.old) (S.counts source.new) }
     ensures station { Counted (T.counts station.old) (T.counts station.new) }
 {
-    let Ok(mut session) = open(alloc, papers) else {
-        return Status::Memory;
+    let Session {
+        graph,
+        mut fleet,
+        mut journal,
+        mut kit,
+    } = match open(alloc, papers, journal, station) {
+        Ok(session) => session,
+        Err(status) => return status,
     };
-    match greet(
-        alloc,
-        &session.graph,
-        &papers.plan,
-        &session.fleet,
-        &mut session.kit,
-        station,
-    ) {
+    let plan = &papers.plan;
+    match greet(alloc, &graph, plan, &fleet, &mut kit, station) {
         Ok(()) => {}
         Err(StepFault::Station) => return Status::StationFault,
         Err(StepFault::Memory) => return Status::Memory,
     }
+    let texts = Texts {
+        map: &papers.map,
+        plan: &papers.text,
+    };
     match serve(
         alloc,
-        &session.graph,
-        &papers.plan,
-        &mut session.fleet,
-        &mut session.kit,
+        &graph,
+        plan,
+        &mut fleet,
+        &mut journal,
+        &mut kit,
         &SETTINGS,
+        &texts,
         source,
         station,
     ) {
@@ -86,27 +111,73 @@ pub fn run<S: Source, T: Station>(
     }
 }
 
-/// The graph of a plan, and its first state.
-fn open(alloc: Global, papers: &Papers) -> Result<Session, Memory>
-    requires { papers.now.pairs ≡ pairs_of papers.now.plan }
+/// Attaches the journal of this name and opens it; where it is not opened, sends the line that says why.
+fn open<T: Station>(
+    alloc: Global,
+    papers: &Papers,
+    journal: &str,
+    station: &mut T,
+) -> Result<Session, Status>
+    requires sound { AreRoutes papers.now.plan }
+    requires pairs { papers.now.pairs ≡ pairs_of papers.now.plan }
+    requires small_map { length papers.now.map.items ≤ 2 ^ 25 }
+    requires small_plan { length papers.now.text.items ≤ 2 ^ 25 }
     ensures graph { IfOk result (λ session. session.graph ≡ graph_of papers.now.plan) }
-    ensures first { IfOk result (λ session. IsFirstState (graph_of papers.now.plan) session.fleet) }
     ensures rules { IfOk result (λ session. IsFleetState (graph_of papers.now.plan) session.fleet) }
-{
-    let graph = PlanGraph::new(alloc, &papers.plan, &papers.pairs)?;
-    let fleet = first_state(alloc, &papers.plan, &papers.pairs)?;
-    let kit = Kit::new(alloc, &graph)?;
-    Ok(Session { graph, fleet, kit })
-}
-
-/// Sends a text and ends with a status, or with a fault of the station.
-pub fn say<T: Station>(station: &mut T, text: &[u8], status: Status) -> Status
-    ensures ends { EndsWith status text.now (record { tells = T.tells; before = (T.clock station.old).seen.sent; now = (T.clock station.new).seen.sent }) (Rose (T.counts station.old).faults (T.counts station.new).faults) result }
-    ensures sides { T.tells → IsSending (T.clock station.old) (T.clock station.new) }
+    ensures restores { T.tells → IfOk result (λ session. Opens papers.now.plan (bytes_of papers.now) (T.clock station.old).seen session.fleet session.journal.place) }
+    ensures rests { T.tells → IfOk result (λ session. IsAtRest papers.now.plan (bytes_of papers.now) session.journal session.fleet (T.clock station.new)) }
+    ensures opening { T.tells → IfOk result (λ _. LeavesOnly (IsOpening papers.now.plan (bytes_of papers.now) (T.clock station.old)) (T.clock station.old) (T.clock station.new)) }
+    ensures unsent { T.tells → IfOk result (λ _. (T.clock station.new).seen.sent ≡ (T.clock station.old).seen.sent) }
+    ensures refused { IfErr result (OpenEnds papers.now.plan (bytes_of papers.now) (record { tells = T.tells; old = T.clock station.old; new = T.clock station.new; failed = Rose (T.counts station.old).faults (T.counts station.new).faults })) }
+    ensures session { T.tells → IfErr result (λ _. (x : FleetState) → StandsFor papers.now.plan (bytes_of papers.now) (T.clock station.old).seen x → (lines : List (List ℕ)) → IsSessionOver papers.now.plan (bytes_of papers.now) side_limit lines (T.clock station.old) (T.clock station.new)) }
     ensures counted { Counted (T.counts station.old) (T.counts station.new) }
 {
-    match send_all(station, text) {
-        Ok(()) => status,
-        Err(_) => Status::StationFault,
+    match station.attach(alloc, journal) {
+        Ok(()) => {}
+        Err(AttachFault::Failed) => return Err(Status::StationFault),
+        Err(AttachFault::Memory) => return Err(Status::Memory),
     }
+    match restore(alloc, papers, station) {
+        Ok(session) => Ok(session),
+        Err(error) => Err(refuse(alloc, station, &error)),
+    }
+}
+
+/// Restores the state for which the sides of a journal stand, or makes a journal, with what a session needs.
+fn restore<T: Station>(
+    alloc: Global,
+    papers: &Papers,
+    station: &mut T,
+) -> Result<Session, RecoverError>
+    requires pairs { papers.now.pairs ≡ pairs_of papers.now.plan }
+    requires small_map { length papers.now.map.items ≤ 2 ^ 25 }
+    requires small_plan { length papers.now.text.items ≤ 2 ^ 25 }
+    ensures graph { IfOk result (λ session. session.graph ≡ graph_of papers.now.plan) }
+    ensures rules { IfOk result (λ session. IsFleetState (graph_of papers.now.plan) session.fleet) }
+    ensures any_moment { T.tells → LeavesOnly (IsOpening papers.now.plan (bytes_of papers.now) (T.clock station.old)) (T.clock station.old) (T.clock station.new) }
+    ensures restores { T.tells → IfOk result (λ session. Opens papers.now.plan (bytes_of papers.now) (T.clock station.old).seen session.fleet session.journal.place) }
+    ensures rests { T.tells → IfOk result (λ session. IsAtRest papers.now.plan (bytes_of papers.now) session.journal session.fleet (T.clock station.new)) }
+    ensures unsent { T.tells → (T.clock station.new).seen.sent ≡ (T.clock station.old).seen.sent }
+    ensures refused { IfErr result (RecoverRefuses (λ image. T.tells → IsImage papers.now.plan (bytes_of papers.now) (T.clock station.old).seen image) (length papers.now.map.items + length papers.now.text.items + 28) side_limit) }
+    ensures stays { T.tells → IfErr result (UnlessStation (IsQuiet (T.clock station.old) (T.clock station.new))) }
+    ensures counted { Counted (T.counts station.old) (T.counts station.new) }
+    ensures cause { IsErrOf result (RecoverError.Journal JournalError.Station) → IsToBlame (T.counts station.old) (T.counts station.new) }
+{
+    let graph = PlanGraph::new(alloc, &papers.plan, &papers.pairs)?;
+    let kit = Kit::new(alloc, &graph)?;
+    let (fleet, journal) = recover(
+        alloc,
+        station,
+        &papers.plan,
+        &papers.pairs,
+        &papers.map,
+        &papers.text,
+        SETTINGS.side_limit,
+    )?;
+    Ok(Session {
+        graph,
+        fleet,
+        journal,
+        kit,
+    })
 }

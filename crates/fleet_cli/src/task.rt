@@ -23,20 +23,24 @@ pub struct Reply {
 
 /// What is left to do.
 #[derive(Drop)]
-pub enum Task {
+pub enum Task<'w> {
     /// A line is to be said.
     Say(Reply),
-    /// A plan is to be run.
-    Serve(Papers),
+    /// A plan is to be run, with the journal of this name.
+    Serve { papers: Papers, journal: &'w str },
 }
 
 /// What is to be done for these words.
-pub fn task_of<H: Shelf>(alloc: Global, words: &[String], shelf: &mut H) -> Result<Task, Memory>
+pub fn task_of<'w, H: Shelf>(
+    alloc: Global,
+    words: &'w [String],
+    shelf: &mut H,
+) -> Result<Task<'w>, Memory>
     ensures task { IfOk result (IsTask (record { tells = H.tells; file = H.file shelf.old }) (Rose (H.counts shelf.old).faults (H.counts shelf.new).faults) (map (λ w. string_bytes w) words.now)) }
     ensures counted { Counted (H.counts shelf.old) (H.counts shelf.new) }
 {
     match papers_for(alloc, words, shelf) {
-        Ok((Command::Run, papers)) => Ok(Task::Serve(papers)),
+        Ok((Command::Run { journal }, papers)) => Ok(Task::Serve { papers, journal }),
         Ok((Command::Check, papers)) => {
             let text = sound_text(alloc, sound_of(&papers))?;
             Ok(Task::Say(Reply {
@@ -56,11 +60,11 @@ pub fn task_of<H: Shelf>(alloc: Global, words: &[String], shelf: &mut H) -> Resu
 }
 
 /// The command of these words, and the plan that they name.
-fn papers_for<H: Shelf>(
+fn papers_for<'w, H: Shelf>(
     alloc: Global,
-    words: &[String],
+    words: &'w [String],
     shelf: &mut H,
-) -> Result<(Command, Papers), Refusal>
+) -> Result<(Command<'w>, Papers), Refusal>
     ensures asked { IfOk result (λ asked. AsksFor (record { tells = H.tells; file = H.file shelf.old }) (map (λ w. string_bytes w) words.now) asked.0 asked.1) }
     ensures refused { IfErr result (IsCalledFor (record { tells = H.tells; file = H.file shelf.old }) (Rose (H.counts shelf.old).faults (H.counts shelf.new).faults) (map (λ w. string_bytes w) words.now)) }
     ensures counted { Counted (H.counts shelf.old) (H.counts shelf.new) }

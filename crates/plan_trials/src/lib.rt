@@ -16,8 +16,6 @@ mod rounds;
 #[cfg(test)]
 mod schedules;
 #[cfg(test)]
-mod sessions;
-#[cfg(test)]
 mod slow;
 #[cfg(test)]
 mod steps;
@@ -25,5 +23,3 @@ mod steps;
 mod tests;
 #[cfg(test)]
 mod walks;
-#[cfg(test)]
-mod world;

@@ -1,0 +1,35 @@
+use Rattle.std.proofs.Common.{ℕ, ◌∙◌, List, [], ◌∷◌, ◌++◌, refl, sym, ap, inl, append-nil}
+use Rattle.fleet_base.specs.declared.geometry.PlannedVisit.{PlannedVisit}
+use Rattle.fleet_base.specs.State.{FleetState}
+use Rattle.fleet_base.specs.World.{Marked}
+use Rattle.fleet_serve.specs.Lines.{greeting_of, text_of}
+use Rattle.fleet_cli.specs.Lives.{SessionMade, kept}
+use Rattle.fleet_cli.proofs.laws.a_new_journal_opens.Goals as goal
+
+opened : List (List PlannedVisit) → ℕ → FleetState → SessionMade
+opened routes limit x = record {
+  limit = limit;
+  held = [];
+  start = record { state = x; place = 0 };
+  turns = [];
+  first = x;
+  events = Marked (record { state = x; sent = text_of (greeting_of routes x) }) ∷ [];
+}
+
+pub returns : goal.returns
+unfolding opened
+returns c = λ routes limit x first.
+    let lines = greeting_of routes x in (
+      opened routes limit x,
+      refl,
+      (
+        record {
+          begins = (first, refl);
+          turns = tt;
+          opens = ([], kept 0 [] (inl refl) (inl refl) refl (text_of (lines ++ []), refl) refl);
+          marks = (([], kept 0 [] (inl refl) (inl refl) refl ([], append-nil (text_of lines) ∙ ap text_of (sym (append-nil lines))) refl), (text_of lines, refl), tt);
+        },
+        tt,
+      ),
+      refl,
+    )
