@@ -1,15 +1,16 @@
 // The adapters over a folder of their own.
 use crate::{RealShelf, RealSource, RealStation};
-use station_api::{DiskSide, Shelf, ShelfFault, Source, Station, sync_both};
+use station_api::{AttachFault, DiskSide, Shelf, ShelfFault, Source, Station, sync_both};
+use std::fs::{File, OpenOptions};
 use std::process::Abort;
 use std::rt::Files;
 use std::test::Fail;
 use std::{env, fs, process};
 
-fn make_folder(rt: HostRuntime) -> Result<String, Fail> {
+fn make_folder(rt: HostRuntime, name: &str) -> Result<String, Fail> {
     let temporary = env::temp_dir(&rt)?;
     let id = process::id(rt.process());
-    let folder = format!(in rt.alloc(); "{}/fleet_station_{id}", temporary.as_path().as_str())?;
+    let folder = format!(in rt.alloc(); "{}/fleet_{name}_{id}", temporary.as_path().as_str())?;
     fs::create_dir(&rt, folder.as_str())?;
     Ok(folder)
 }
@@ -43,15 +44,82 @@ fn assert_fetches<R: Files + AllocGlobal + Abort>(rt: &R, folder: &str) -> Resul
     Ok(())
 }
 
+/// Over the journal that another station has left.
+fn assert_goes_on<S: Station>(rt: &impl Abort, station: &mut S) -> Result<(), Fail>
+    requires { S.tells → ⊥ }
+{
+    assert_eq!(rt; station.length(DiskSide::A)?, 4);
+    assert_eq!(rt; station.length(DiskSide::B)?, 0);
+    station.write_at(DiskSide::A, 3, b"xyz")?;
+    station.write_at(DiskSide::B, 0, b"b")?;
+    sync_both(station)?;
+    let mut room = [0; 9];
+    assert_eq!(rt; station.read(DiskSide::A, 0, &mut room)?, 6);
+    assert_eq!(rt; room, *b"abcxyz\0\0\0");
+    assert_eq!(rt; station.length(DiskSide::B)?, 1);
+    Ok(())
+}
+
+/// Over a journal in a folder that is missing: it has no files, and none can be made.
+fn assert_cannot_be_made<S: Station>(rt: &impl Abort, station: &mut S) -> Result<(), Fail>
+    requires { S.tells → ⊥ }
+{
+    assert_eq!(rt; station.length(DiskSide::A)?, 0);
+    sync_both(station)?;
+    assert!(rt; station.write_at(DiskSide::A, 0, b"a").is_err());
+    Ok(())
+}
+
 #[test]
 fn a_journal_lies_in_two_files(rt: HostRuntime) -> Result<(), Fail> {
-    let folder = make_folder(rt)?;
+    let folder = make_folder(rt, "journal")?;
     let journal = format!(in rt.alloc(); "{folder}/journal")?;
     let mut station = RealStation::new(rt);
     assert!(rt; station.length(DiskSide::A).is_err());
     station.attach(rt.alloc(), journal.as_str())?;
     assert_keeps_bytes(&rt, &mut station)?;
     assert_fetches(&rt, folder.as_str())?;
+    let mut next = RealStation::new(rt);
+    next.attach(rt.alloc(), journal.as_str())?;
+    assert_goes_on(&rt, &mut next)?;
+    fs::remove_dir_all(&rt, folder.as_str())?;
+    Ok(())
+}
+
+/// How a new station attaches to a journal of this folder.
+fn attach<R: Files<File = File> + Print + AllocGlobal>(
+    rt: &R,
+    folder: &str,
+    name: &str,
+) -> Result<Option<AttachFault>, Fail> {
+    let path = format!(in rt.alloc(); "{folder}/{name}")?;
+    Ok(RealStation::new(rt).attach(rt.alloc(), path.as_str()).err())
+}
+
+/// Makes a file that may only be read, and says whether it can be written all the same, as root can.
+fn make_read_only<R: Files<File = File>>(rt: &R, path: &str) -> Result<bool, Fail> {
+    fs::write(rt, path, b"a")?;
+    let mut permissions = fs::metadata(rt, path)?.permissions();
+    permissions.set_readonly(true);
+    fs::set_permissions(rt, path, permissions)?;
+    Ok(OpenOptions::new().write(true).open(rt, path).is_ok())
+}
+
+#[test]
+fn a_journal_that_cannot_be_written_is_a_fault(rt: HostRuntime) -> Result<(), Fail> {
+    let folder = make_folder(rt, "faults")?;
+    let missing = format!(in rt.alloc(); "{folder}/missing/journal")?;
+    let mut station = RealStation::new(rt);
+    station.attach(rt.alloc(), missing.as_str())?;
+    assert_cannot_be_made(&rt, &mut station)?;
+    fs::create_dir(&rt, format!(in rt.alloc(); "{folder}/place.b")?.as_str())?;
+    assert_eq!(rt;
+        attach(&rt, folder.as_str(), "place")?,
+        Some(AttachFault::Failed)
+    );
+    let path = format!(in rt.alloc(); "{folder}/shut.a")?;
+    let writes = make_read_only(&rt, path.as_str())?;
+    assert_eq!(rt; attach(&rt, folder.as_str(), "shut")?.is_none(), writes);
     fs::remove_dir_all(&rt, folder.as_str())?;
     Ok(())
 }

@@ -1,0 +1,108 @@
+// The program over files, reports and a station in memory.
+use crate::papers::{CROSSING, Script, Texts};
+use fleet_cli::fleet_main;
+use station_api::{DiskSide, MemShelf, MemSource, MemStation, Shelf, Source, Station};
+use std::alloc::Global;
+use std::test::Fail;
+
+/// Words as the program takes them.
+pub fn word_list(alloc: Global, words: &[&str]) -> Result<Vec<String>, Fail> {
+    let mut list = Vec::new(alloc);
+    for word in words {
+        list.push(String::from_str(alloc, word)?)?;
+    }
+    Ok(list)
+}
+
+/// A shelf with a map `M` and a plan `P`, which fails at these calls.
+pub fn shelf_of(alloc: Global, texts: Texts<'_>, failing: &[u64]) -> Result<MemShelf, Fail> {
+    let mut shelf = MemShelf::new(alloc, failing.to_vec(alloc)?);
+    shelf.put(alloc, "M", texts.0)?;
+    shelf.put(alloc, "P", texts.1)?;
+    Ok(shelf)
+}
+
+/// A station that fails at these calls.
+pub fn station_of(alloc: Global, failing: &[u64]) -> Result<MemStation, Fail> {
+    Ok(MemStation::new(alloc, failing.to_vec(alloc)?))
+}
+
+/// The status with which the program ends for these words.
+pub fn end_of<H: Shelf, S: Source, T: Station>(
+    alloc: Global,
+    words: &[&str],
+    shelf: &mut H,
+    source: &mut S,
+    station: &mut T,
+) -> Result<u8, Fail> {
+    let list = word_list(alloc, words)?;
+    Ok(fleet_main(alloc, &list, shelf, source, station).code())
+}
+
+/// The status with which a session over the plan of these texts ends that hears these reports.
+pub fn session<T: Station>(
+    alloc: Global,
+    texts: Texts<'_>,
+    reports: &[u8],
+    station: &mut T,
+) -> Result<u8, Fail> {
+    let mut shelf = shelf_of(alloc, texts, &[])?;
+    let mut source = MemSource::new(alloc, reports.to_vec(alloc)?, Vec::new(alloc));
+    end_of(
+        alloc,
+        &["run", "M", "P", "J"],
+        &mut shelf,
+        &mut source,
+        station,
+    )
+}
+
+/// The same over the crossing, with the first reports of a script.
+pub fn play<T: Station>(
+    alloc: Global,
+    script: &Script,
+    count: usize,
+    station: &mut T,
+) -> Result<u8, Fail> {
+    let reports = script.reports.get(..count).ok_or("reports")?;
+    session(alloc, CROSSING, &joined(alloc, reports)?, station)
+}
+
+/// What was sent behind so many bytes.
+pub fn sent_behind(alloc: Global, station: &MemStation, front: usize) -> Result<Vec<u8>, Fail> {
+    let sent = station.sent().get(front..).ok_or("no less than before")?;
+    Ok(sent.to_vec(alloc)?)
+}
+
+/// What the next session sends that hears these reports. It must end well.
+pub fn next_session(
+    alloc: Global,
+    texts: Texts<'_>,
+    reports: &[u8],
+    station: &mut MemStation,
+) -> Result<Vec<u8>, Fail> {
+    let before = station.sent().len();
+    if session(alloc, texts, reports, station)? != 0 {
+        return Err(Fail::from("a session that ends well"));
+    }
+    sent_behind(alloc, station, before)
+}
+
+/// The bytes of side A.
+pub fn side_a(alloc: Global, station: &MemStation) -> Result<Vec<u8>, Fail> {
+    Ok(station.side(DiskSide::A).to_vec(alloc)?)
+}
+
+/// The bytes of side B.
+pub fn side_b(alloc: Global, station: &MemStation) -> Result<Vec<u8>, Fail> {
+    Ok(station.side(DiskSide::B).to_vec(alloc)?)
+}
+
+/// Pieces, one behind another.
+pub fn joined(alloc: Global, pieces: &[&[u8]]) -> Result<Vec<u8>, Fail> {
+    let mut whole = Vec::new(alloc);
+    for piece in pieces {
+        whole.extend_from_slice(piece)?;
+    }
+    Ok(whole)
+}
