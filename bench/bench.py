@@ -1,13 +1,16 @@
 #!/usr/bin/env python3
-"""Times `fleet check` on large files of its own making, beside `cksum` and `wc -w` of the same files, rankings, schedules and
-checks of certificates.
+"""Times `fleet check` on large files of its own making, beside `cksum` and `wc -w` of the same files, rankings, schedules,
+checks of certificates, sessions, the opening of journals, and what it costs to keep a report.
 
-Usage: bench/bench.py FLEET RANK_BENCH CERT_BENCH
+Usage: bench/bench.py FLEET RANK_BENCH CERT_BENCH [TABLE..]
+
+With names of tables (check, rank, session, cert, journal, kept) it makes these alone.
 
 Each row of the first table is one pair of files, each row of the second one plan. A time is the least of nine runs, as the
 processor time of the process; the memory is the greatest resident size. The tables are written in Markdown.
 """
 import os
+import struct
 import subprocess
 import sys
 import tempfile
@@ -17,6 +20,8 @@ RUNS = 9
 RANKS = 40
 SIDE = 4096
 LISTED = 4097
+KEPT_RUNS = 3
+MEMORY = "/dev/shm"
 
 
 def run(command):
@@ -131,18 +136,34 @@ def delays(robots, visit, rounds):
     return "".join(f"delay {robot} {visit} {extra} 0\n" for extra in range(1, rounds + 1) for robot in range(robots))
 
 
+def write_convoy(folder, robots, steps):
+    """The map and the plan of a convoy, in this folder."""
+    map_path, plan_path = (os.path.join(folder, name) for name in ("M", "P"))
+    with open(map_path, "w") as file:
+        file.write(f"type octile\nheight 1\nwidth {robots + steps}\nmap\n" + "." * (robots + steps) + "\n")
+    write_plan(plan_path, robots, convoy(robots, steps))
+    return map_path, plan_path
+
+
+def anew(run):
+    """A run in a folder of its own, in the file system where no sync takes time."""
+
+    def timed():
+        with tempfile.TemporaryDirectory(dir=MEMORY) as folder:
+            return run(os.path.join(folder, "J"))
+
+    return timed
+
+
 def session_row(program, robots, steps, data):
     reports = data.count(b"\n")
     with tempfile.TemporaryDirectory() as folder:
-        map_path, plan_path = (os.path.join(folder, name) for name in ("M", "P"))
-        with open(map_path, "w") as file:
-            file.write(f"type octile\nheight 1\nwidth {robots + steps}\nmap\n" + "." * (robots + steps) + "\n")
-        write_plan(plan_path, robots, convoy(robots, steps))
-        command = [program, "run", map_path, plan_path]
-        answers = subprocess.run(command, input=data, stdout=subprocess.PIPE, check=True).stdout
+        command = [program, "run", *write_convoy(folder, robots, steps)]
+        timed = lambda data: anew(lambda journal: piped([*command, journal], data))
+        answers = anew(lambda journal: subprocess.run([*command, journal], input=data, stdout=subprocess.PIPE, check=True).stdout)()
         assert answers.endswith(f"ok {reports}\n".encode())
-        empty = min(piped(command, b"") for _ in range(RUNS))
-        whole = min(piped(command, data) for _ in range(RUNS))
+        empty = min(timed(b"")() for _ in range(RUNS))
+        whole = min(timed(data)() for _ in range(RUNS))
         copied = min(piped(["cat"], data) for _ in range(RUNS))
     each = (whole - empty) / reports
     pairs, visits = pairs_of_convoy(robots, steps), robots * (steps + 1)
@@ -154,6 +175,92 @@ def session_table(program):
     print("|---|---|---|---|---|---|---|---|")
     session_row(program, 32, 6, delays(32, 6, 320).encode())
     session_row(program, 32, 320, convoy_reports(32, 320).encode())
+
+
+def header_payload(map_text, plan_text):
+    """The payload of the header of a new journal."""
+    return b"FLET" + struct.pack(">BQ", 1, 1) + b"".join(struct.pack(">I", len(text)) + text for text in (map_text, plan_text)) + b"\0"
+
+
+def report_payload(line):
+    """The payload of an accepted report, which switches no pair."""
+    kind, *numbers = line.split()
+    if kind == b"arrive":
+        return struct.pack(">BIIQ", 1, *map(int, numbers))
+    return struct.pack(">BIIIQI", 2, *map(int, numbers), 0)
+
+
+def journal_bytes(map_path, plan_path, data):
+    """The side of a journal of this map and plan that holds these reports."""
+    with open(map_path, "rb") as map_file, open(plan_path, "rb") as plan_file:
+        payloads = [header_payload(map_file.read(), plan_file.read())]
+    payloads += (report_payload(line) for line in data.splitlines())
+    return b"".join(b"\1" + struct.pack(">I", len(payload)) + payload for payload in payloads) + b"\0"
+
+
+def opening_row(program, name, robots, steps, data):
+    reports = data.count(b"\n")
+    with tempfile.TemporaryDirectory(dir=MEMORY) as folder:
+        papers = write_convoy(folder, robots, steps)
+        journals = [os.path.join(folder, name) for name in ("empty", "whole")]
+        for journal, held in zip(journals, (b"", data)):
+            with open(journal + ".a", "wb") as file:
+                file.write(journal_bytes(*papers, held))
+        size = os.path.getsize(journals[1] + ".a")
+        greeted = subprocess.run([program, "run", *papers, journals[1]], input=b"", stdout=subprocess.PIPE, check=True).stdout
+        assert greeted.startswith(f"ready {reports}\n".encode())
+        times = [min(piped([program, "run", *papers, journal], b"") for _ in range(RUNS)) for journal in journals]
+        summed = least(["cksum", journals[1] + ".a"])[0]
+    spent = times[1] - times[0]
+    print(f"| {name} | {reports:,} | {robots} | {size / 1e6:.1f} | {1e3 * spent:.0f} | {1e6 * spent / reports:.2f} | {1e9 * spent / size:.0f} | {1e3 * summed:.1f} |", flush=True)
+
+
+def journal_table(program):
+    print("| reports kept | how many | robots | MB | ms of opening | microseconds a report | ns a byte | ms of `cksum` |")
+    print("|---|---|---|---|---|---|---|---|")
+    for rounds in (780, 1560, 3120):
+        opening_row(program, "delays", 32, 6, delays(32, 6, 2 * rounds).encode())
+    opening_row(program, "arrivals", 32, 2040, convoy_reports(32, 2040).encode())
+    opening_row(program, "delays", 256, 60, delays(256, 60, 390).encode())
+
+
+def bare_loop(path, frames):
+    """The seconds of writing these frames as a session does: behind the closed gate, a sync, the gate, a sync."""
+    place = 0
+    file = os.open(path, os.O_CREAT | os.O_RDWR)
+    try:
+        begun = time.monotonic()
+        for frame in frames:
+            os.pwrite(file, frame, place + 1)
+            os.fsync(file)
+            os.pwrite(file, b"\1", place)
+            os.fsync(file)
+            place += len(frame)
+        return time.monotonic() - begun
+    finally:
+        os.close(file)
+
+
+def kept_row(program, where, folder_of):
+    data = delays(32, 6, 313).encode()
+    payloads = [report_payload(line) for line in data.splitlines()]
+    frames = [struct.pack(">I", len(payload)) + payload + b"\0" for payload in payloads]
+    reports = len(frames)
+    served, bare = [], []
+    for _ in range(KEPT_RUNS):
+        with tempfile.TemporaryDirectory(dir=folder_of) as folder:
+            command = [program, "run", *write_convoy(folder, 32, 6)]
+            empty = piped([*command, os.path.join(folder, "E")], b"")
+            served.append(piped([*command, os.path.join(folder, "J")], data) - empty)
+            bare.append(bare_loop(os.path.join(folder, "B"), frames))
+    print(f"| {where} | {reports:,} | {1e6 * min(served) / reports:.1f} | {1e6 * min(bare) / reports:.1f} | {min(served) / min(bare):.2f} |", flush=True)
+
+
+def kept_table(program):
+    print("| file system | reports | microseconds of one kept report | microseconds of two writes and two syncs | times |")
+    print("|---|---|---|---|---|")
+    kept_row(program, "disk", os.getcwd())
+    kept_row(program, "memory", MEMORY)
 
 
 TREES = [
@@ -199,13 +306,18 @@ def cert_table(program):
 
 
 def main():
-    check_table(os.path.abspath(sys.argv[1]))
-    print()
-    rank_table(os.path.abspath(sys.argv[2]))
-    print()
-    session_table(os.path.abspath(sys.argv[1]))
-    print()
-    cert_table(os.path.abspath(sys.argv[3]))
+    fleet, rank_bench, cert_bench = (os.path.abspath(path) for path in sys.argv[1:4])
+    tables = {
+        "check": lambda: check_table(fleet),
+        "rank": lambda: rank_table(rank_bench),
+        "session": lambda: session_table(fleet),
+        "journal": lambda: journal_table(fleet),
+        "kept": lambda: kept_table(fleet),
+        "cert": lambda: cert_table(cert_bench),
+    }
+    for name in sys.argv[4:] or tables:
+        tables[name]()
+        print(flush=True)
 
 
 if __name__ == "__main__":
