@@ -1,5 +1,5 @@
 -- What the opening of a journal leaves at each moment, and at its end.
-use Rattle.std.proofs.Common.{◌≡◌, ◌∙◌, inl, inr, ℕ, ◌+◌, ◌≤◌, List, [], ◌∷◌, ◌++◌, length, length-append, refl, sym, subst, ap, arith, Option, Some, None}
+use Rattle.std.proofs.Common.{⊎_elim, ◌≡◌, ◌∙◌, inl, inr, ℕ, ◌+◌, ◌≤◌, List, [], ◌∷◌, ◌++◌, length, length-append, refl, sym, subst, ap, arith, Option, Some, None}
 use Rattle.std.specs.Int.{w32, w64, to_be_bytes}
 use Rattle.fleet_base.specs.declared.geometry.PlannedVisit.{PlannedVisit}
 use Rattle.fleet_base.specs.Order.{graph_of}
@@ -10,7 +10,7 @@ use Rattle.station_api.specs.Clock.{Clock, LeavesOnly, LeavesNow, IsKept}
 use Rattle.station_api.specs.Disk.{IsQuiet}
 use Rattle.station_api.specs.declared.station.DiskSide.{DiskSide}
 use Rattle.station_api.specs.declared.station.DiskSide.TheVariants.{A}
-use Rattle.station_api.proofs.Moments.{goes_on, leaves_also, leaves_now}
+use Rattle.station_api.proofs.Moments.{passes_on, goes_on, leaves_also, leaves_now}
 use Rattle.journal_frame.specs.declared.header.HeaderParts.{HeaderParts}
 use Rattle.journal_frame.specs.Headers.{IsHeader, header_payload, magic}
 use Rattle.journal_frame.specs.Texts.{sized}
@@ -25,7 +25,7 @@ use Rattle.fleet_recovery.specs.declared.error.RecoverError.TheVariants as recov
 use Rattle.fleet_recovery.specs.Papers.{Papers, new_header}
 use Rattle.fleet_recovery.specs.Image.{MeansState, HoldsState, blank, found}
 use Rattle.fleet_recovery.specs.Answers.{HasJournal, IsLooked, UnlessStation}
-use Rattle.fleet_recovery.specs.Opening.{IsOpening, before, during, StandsStill, Opens, again, IsAtRest}
+use Rattle.fleet_recovery.specs.Opening.{IsOpening, before, during, SyncsFirst, StandsStill, Opens, again, IsAtRest}
 
 -- how long the payload of a new header is
 lengths : (a b m p t : List ℕ) → length (a ++ (b ++ (m ++ (p ++ t)))) ≡ length a + (length b + (length m + (length p + length t)))
@@ -80,12 +80,12 @@ module _ (routes : List (List PlannedVisit)) (papers : Papers) (k0 k2 : Clock) (
     pub making : (k3 : Clock) → LeavesOnly (BlankOrCreated header) k2 k3 → LeavesOnly P k0 k3
     making k3 run = goes_on P k0 k2 k3 reading (leaves_also (BlankOrCreated header) P k2 k3 run made)
 
+    pub made_still : (c : Scene) → BlankOrCreated header c → StandsStill routes papers k0.seen c
+    made_still c (inl is) = (x, blank is_blank first, blank is first)
+    made_still c (inr keeps) = (x, blank is_blank first, found (record { side = A; header = header; entries = []; keeps = keeps; means = new_means }))
+
     pub made_now : (k3 : Clock) → LeavesOnly (BlankOrCreated header) k2 k3 → LeavesNow (StandsStill routes papers k0.seen) k3
-    made_now k3 run c now = still (leaves_now (BlankOrCreated header) k2 k3 run c now)
-      where
-        still : BlankOrCreated header c → StandsStill routes papers k0.seen c
-        still (inl is) = (x, blank is_blank first, blank is first)
-        still (inr keeps) = (x, blank is_blank first, found (record { side = A; header = header; entries = []; keeps = keeps; means = new_means }))
+    made_now k3 run c now = made_still c (leaves_now (BlankOrCreated header) k2 k3 run c now)
 
     pub new_rests : (journal : Standing) (k3 : Clock) → IsKept k3 → Stands journal header [] k3.seen → journal.side ≡ A → length k3.seen.b ≤ 1 → IsAtRest routes papers journal x k3
     new_rests journal k3 kept stands side short = record {
@@ -108,8 +108,11 @@ module _ (routes : List (List PlannedVisit)) (papers : Papers) (k0 k2 : Clock) (
     pub finishing : (k3 : Clock) → LeavesOnly (Keeps journal.side has.header has.entries) k2 k3 → LeavesOnly P k0 k3
     finishing k3 run = goes_on P k0 k2 k3 reading (leaves_also (Keeps journal.side has.header has.entries) P k2 k3 run kept_so)
 
+    pub finished_still : (c : Scene) → Keeps journal.side has.header has.entries c → StandsStill routes papers k0.seen c
+    finished_still c keeps = (x, found (held k0.seen has.stands.keeps), found (held c keeps))
+
     pub finished_now : (k3 : Clock) → LeavesOnly (Keeps journal.side has.header has.entries) k2 k3 → LeavesNow (StandsStill routes papers k0.seen) k3
-    finished_now k3 run c now = (x, found (held k0.seen has.stands.keeps), found (held c (leaves_now (Keeps journal.side has.header has.entries) k2 k3 run c now)))
+    finished_now k3 run c now = finished_still c (leaves_now (Keeps journal.side has.header has.entries) k2 k3 run c now)
 
     pub rests : (new : Standing) (k3 : Clock) → new ≡ journal → IsKept k3 → Stands journal has.header has.entries k3.seen → IsClean (side_of (other_of journal.side) k3.seen) → IsAtRest routes papers new x k3
     rests new k3 same kept stands clean = record {
@@ -145,3 +148,26 @@ pub looked_live : (routes : List (List PlannedVisit)) (papers : Papers) (s t : S
     → IsLooked routes papers s x base live → HasJournal routes papers t x base journal other
 looked_live routes papers s t x base live journal other same is looked =
     subst (λ (c : Scene). HasJournal routes papers c x base journal other) same (subst (λ (o : Option (Standing × OtherSide)). IsLooked routes papers s x base o) is looked)
+
+-- both sides are synced, and then nothing but reading
+pub synced_quiet : (routes : List (List PlannedVisit)) (papers : Papers) (k0 k1 k2 : Clock) → IsQuiet k0 k1 → IsKept k1 → IsQuiet k1 k2 → SyncsFirst routes papers k0 k2
+synced_quiet routes papers k0 k1 k2 first kept second = record {
+  synced = k1.moment;
+  later = first.passes.later;
+  within = second.passes.later;
+  until = λ c left. ⊎_elim (λ early. inl (first.stop c early)) (λ now. inr now) (second.passes.adds_up k0.moment c first.passes.later left);
+  since = λ c left. inl (kept c (second.stop c left) ∙ first.seen);
+}
+
+-- both sides are synced, the state is read, and then a journal is made or finished
+pub synced_run : (routes : List (List PlannedVisit)) (papers : Papers) (k0 k1 k2 k3 : Clock) → IsQuiet k0 k1 → IsKept k1 → IsQuiet k1 k2 → (P : Scene → Type 0) → LeavesOnly P k2 k3
+    → ((c : Scene) → P c → StandsStill routes papers k0.seen c) → SyncsFirst routes papers k0 k3
+synced_run routes papers k0 k1 k2 k3 first kept second P run still =
+    let passes = passes_on k1 k2 k3 second.passes run.passes in
+    record {
+      synced = k1.moment;
+      later = first.passes.later;
+      within = passes.later;
+      until = λ c left. ⊎_elim (λ early. inl (first.stop c early)) (λ now. inr now) (passes.adds_up k0.moment c first.passes.later left);
+      since = λ c left. ⊎_elim (λ early. inl (kept c (second.stop c early) ∙ first.seen)) (λ late. inr (still c (run.each c late))) (run.passes.adds_up k1.moment c second.passes.later left);
+    }

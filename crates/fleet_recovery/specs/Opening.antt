@@ -1,5 +1,5 @@
 -- What the opening of a journal leaves at each moment, and at its end.
-use Rattle.std.specs.Prelude.{ℕ, ◌≡◌, ◌+◌, ◌≤◌, List, length}
+use Rattle.std.specs.Prelude.{ℕ, ◌≡◌, ◌⊎◌, ◌+◌, ◌≤◌, List, length}
 use Rattle.fleet_base.specs.declared.geometry.PlannedVisit.{PlannedVisit}
 use Rattle.fleet_base.specs.Order.{graph_of}
 use Rattle.fleet_base.specs.State.{FleetState}
@@ -23,6 +23,15 @@ pub data IsOpening (routes : List (List PlannedVisit)) (papers : Papers) (old : 
 -- the sides stand for a state for which those stood that were seen
 abbrev pub StandsStill : List (List PlannedVisit) → Papers → Scene → Scene → Type 0
 StandsStill routes papers seen c = (x : FleetState) × StandsFor routes papers seen x × StandsFor routes papers c x
+
+-- Both sides are synced at some moment of the call. Until then a stop leaves what one before the call might have left; from then on,
+-- what the station read, or what stands for the same state.
+pub record SyncsFirst (routes : List (List PlannedVisit)) (papers : Papers) (old new : Clock) : Type 0 where
+  pub synced : ℕ
+  pub later : old.moment ≤ synced
+  pub within : synced ≤ new.moment
+  pub until : (c : Scene) → new.left_since old.moment c → old.may_leave c ⊎ new.left_since synced c
+  pub since : (c : Scene) → new.left_since synced c → (c ≡ old.seen) ⊎ StandsStill routes papers old.seen c
 
 -- The sides stand for the state, and the journal is that of the side taken and stands at its closed gate.
 pub record StandsWith (routes : List (List PlannedVisit)) (papers : Papers) (journal : Standing) (x : FleetState) (scene : Scene) : Type 0 where

@@ -15,7 +15,7 @@ ghost use Rattle.fleet_journal.specs.declared.error.JournalError.TheVariants.{St
 ghost use Rattle.fleet_recovery.specs.declared.error.RecoverError.TheVariants.{Journal as OfJournal};
 ghost use Rattle.fleet_recovery.specs.Image.{IsImage};
 ghost use Rattle.fleet_recovery.specs.Answers.{MakeRefuses, RecoverRefuses, UnlessStation};
-ghost use Rattle.fleet_recovery.specs.Opening.{IsOpening, StandsStill, Opens, IsAtRest};
+ghost use Rattle.fleet_recovery.specs.Opening.{IsOpening, SyncsFirst, StandsStill, Opens, IsAtRest};
 
 use crate::{Looked, RecoverError, look};
 use fleet_base::{Fleet, Memory, PairTable, SoundPlan, Text};
@@ -47,6 +47,10 @@ pub fn recover<T: Station>(
 
     // In the end, whatever the answer, nothing has happened, or all that a stop may leave now stands for that state.
     ensures afterwards { T.tells → IsQuiet (T.clock station.old) (T.clock station.new) ⊎ LeavesNow (StandsStill plan.now (record { map = map.now; plan = text.now }) (T.clock station.old).seen) (T.clock station.new) }
+
+    // Whatever the answer, from the moment at which both sides are synced a stop leaves what was read, or what stands for the
+    // same state. Only a fault of the station comes before that moment.
+    ensures synced { T.tells → SyncsFirst plan.now (record { map = map.now; plan = text.now }) (T.clock station.old) (T.clock station.new) ⊎ (IsErrOf result (RecoverError.Journal JournalError.Station) × IsQuiet (T.clock station.old) (T.clock station.new)) }
 
     // At Ok the state is that for which the sides stood, and station and journal are at rest with it.
     ensures restores { T.tells → IfOk result (λ opened. Opens plan.now (record { map = map.now; plan = text.now }) (T.clock station.old).seen opened.0 opened.1.place) }

@@ -4,7 +4,7 @@ use Rattle.fleet_recovery.specs.Papers.{new_header}
 use Rattle.fleet_recovery.proofs.Passing.{quiet_on}
 use Rattle.fleet_recovery.proofs.Replays.{told_on}
 use Rattle.fleet_recovery.specs.Opening.{anew}
-use Rattle.fleet_recovery.proofs.Opens.{opens_again, unless, unless_also, making, new_rests, finishing, rests, not_blank, stands_at, looked_blank, looked_live, made_now, finished_now}
+use Rattle.fleet_recovery.proofs.Opens.{opens_again, unless, unless_also, making, new_rests, finishing, rests, not_blank, stands_at, looked_blank, looked_live, made_now, finished_now, made_still, finished_still, synced_quiet, synced_run}
 use Rattle.fleet_recovery.proofs.opening.recover.Goals.{in-None+in_ok-journal-in-None, in-Some+in_ok-journal-in-Some}
 use Rattle.fleet_recovery.proofs.opening.recover.Goals as goal
 
@@ -111,4 +111,38 @@ returns-clause-restores g c told =
       | in-Some+in_ok-journal-in-Some w ↦
           let has = looked_live _ _ _ _ _ _ _ _ _ (c.sync_both.ensures.quiet told).seen w.in-Some.is (c.in_ok-fleet.ensures.found told) in
           rw w.journal-is (opens_again _ _ _ _ _ _ _ has _ w.in_ok-journal-in-Some.ensures.same)
+    ]
+
+pub returns-in_err-fleet-clause-synced : goal.returns-in_err-fleet-clause-synced
+returns-in_err-fleet-clause-synced g c told = inl (synced_quiet _ _ _ _ _ (c.sync_both.ensures.quiet told) (c.in_ok-sync_both.ensures.kept told) (c.look.ensures.quiet told))
+
+pub returns-in_err-journal-in-None-clause-synced : goal.returns-in_err-journal-in-None-clause-synced
+returns-in_err-journal-in-None-clause-synced g c told =
+    let quiet = quiet_on _ _ _ (c.sync_both.ensures.quiet told) (c.look.ensures.quiet told) in
+    let kept = c.in_ok-sync_both.ensures.kept told in
+    let at = looked_blank _ _ _ _ _ _ _ (c.sync_both.ensures.quiet told).seen c.in-None.is (c.in_ok-fleet.ensures.found told) in
+    inl (synced_run _ _ _ _ _ _ (c.sync_both.ensures.quiet told) kept (c.look.ensures.quiet told) _ (c.make.ensures.any_moment told (kept_quiet _ _ (c.look.ensures.quiet told) kept))
+    (made_still _ _ _ _ quiet _ at.0 at.1 (new_header c.args.map.now c.args.text.now) refl))
+
+pub returns-in_err-journal-in-Some-clause-synced : goal.returns-in_err-journal-in-Some-clause-synced
+returns-in_err-journal-in-Some-clause-synced g c told =
+    let quiet = quiet_on _ _ _ (c.sync_both.ensures.quiet told) (c.look.ensures.quiet told) in
+    let kept = c.in_ok-sync_both.ensures.kept told in
+    let has = looked_live _ _ _ _ _ _ _ _ _ (c.sync_both.ensures.quiet told).seen c.in-Some.is (c.in_ok-fleet.ensures.found told) in
+    inl (synced_run _ _ _ _ _ _ (c.sync_both.ensures.quiet told) kept (c.look.ensures.quiet told) _
+    (c.finish.ensures.any_moment told has.header has.entries (stands_at _ _ _ _ _ quiet.seen has.stands) (kept_quiet _ _ (c.look.ensures.quiet told) kept))
+    (finished_still _ _ _ _ quiet _ _ _ _ has))
+
+pub returns-clause-synced : goal.returns-clause-synced
+returns-clause-synced g c told =
+    let quiet = quiet_on _ _ _ (c.sync_both.ensures.quiet told) (c.look.ensures.quiet told) in
+    let kept = c.in_ok-sync_both.ensures.kept told in
+    let still = kept_quiet _ _ (c.look.ensures.quiet told) kept in
+    elim c.match-live.branch [
+      | in-None+in_ok-journal-in-None w ↦
+          let at = looked_blank _ _ _ _ _ _ _ (c.sync_both.ensures.quiet told).seen w.in-None.is (c.in_ok-fleet.ensures.found told) in
+          inl (rw w.station-is (synced_run _ _ _ _ _ _ (c.sync_both.ensures.quiet told) kept (c.look.ensures.quiet told) _ (w.make.ensures.any_moment told still) (made_still _ _ _ _ quiet _ at.0 at.1 (new_header c.args.map.now c.args.text.now) refl)))
+      | in-Some+in_ok-journal-in-Some w ↦
+          let has = looked_live _ _ _ _ _ _ _ _ _ (c.sync_both.ensures.quiet told).seen w.in-Some.is (c.in_ok-fleet.ensures.found told) in
+          inl (rw w.station-is (synced_run _ _ _ _ _ _ (c.sync_both.ensures.quiet told) kept (c.look.ensures.quiet told) _ (w.finish.ensures.any_moment told has.header has.entries (stands_at _ _ _ _ _ quiet.seen has.stands) still) (finished_still _ _ _ _ quiet _ _ _ _ has)))
     ]
