@@ -3,19 +3,11 @@ use Rattle.std.proofs.Common.{ℕ, map, ◌≡◌, ◌+◌, ◌<◌, List, [], �
 use Rattle.std.specs.Prelude.{flat_map}
 use Rattle.std.proofs.lemmas.Grind.{flat_map-append}
 use Rattle.std.proofs.lemmas.List.{take-append-drop, drop_more}
+use Rattle.fleet_base.specs.Bytes.{AppendsFront}
 use Rattle.cert_tree.specs.declared.node.CertPath.{CertPath}
 use Rattle.cert_tree.specs.declared.node.Node.{Node}
 use Rattle.cert_tree.specs.CertText.{text_of_lines, path_line, node_lines, cert_text}
-use Rattle.cert_tree.specs.Writing.{AppendsFront}
-
--- a front of the first part
-pub front_first : (old new part rest : List ℕ) → AppendsFront old new part → AppendsFront old new (part ++ rest)
-front_first old new part rest (front, (more, e), is) = (front, (more ++ rest, sym (append_assoc front more rest) ∙ ap (λ (l : List ℕ). l ++ rest) e), is)
-
--- behind the first part, a front of the second
-pub front_behind : (old mid new done part : List ℕ) → mid ≡ old ++ done → AppendsFront mid new part → AppendsFront old new (done ++ part)
-front_behind old mid new done part before (front, (more, e), is) =
-    (done ++ front, (more, append_assoc done front more ∙ ap (λ (l : List ℕ). done ++ l) e), is ∙ ap (λ (l : List ℕ). l ++ front) before ∙ append_assoc old done front)
+use Rattle.fleet_base.proofs.Appending.{front_first, front_behind}
 
 -- both parts
 pub both : (old mid new done part : List ℕ) → mid ≡ old ++ done → new ≡ mid ++ part → new ≡ old ++ (done ++ part)
@@ -27,10 +19,6 @@ pieces_left f old mid new xs i x inside is left =
     let parts : flat_map f (take i xs) ++ (f (get_or xs i x) ++ flat_map f (drop (i + 1) xs)) ≡ flat_map f xs =
     ap (λ l. flat_map f (take i xs) ++ flat_map f l) (sym (drop_more xs i x inside)) ∙ sym (flat_map-append f (take i xs) (drop i xs)) ∙ ap (flat_map f) (take-append-drop i xs) in
     rw (sym parts) (front_behind old mid new (flat_map f (take i xs)) (f (get_or xs i x) ++ flat_map f (drop (i + 1) xs)) is (front_first mid new (f (get_or xs i x)) (flat_map f (drop (i + 1) xs)) left))
-
--- a loop over bytes that has come so far leaves a front of them
-pub bytes_left : (old mid new bytes : List ℕ) (i : ℕ) → mid ≡ old ++ take i bytes → new ≡ mid → AppendsFront old new bytes
-bytes_left old mid new bytes i is same = (take i bytes, (drop i bytes, take-append-drop i bytes), same ∙ is)
 
 -- the text of paths, path by path
 pub text_by_paths : (paths : List CertPath) → text_of_lines (map path_line paths) ≡ flat_map (λ p. path_line p ++ 10 ∷ []) paths

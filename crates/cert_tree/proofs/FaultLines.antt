@@ -5,7 +5,7 @@ use Rattle.std.proofs.lemmas.Bool.{cases_lt}
 use Rattle.std.proofs.lemmas.List.{append-nil, take_all, take-append-drop, take-append-le, nil_from_length}
 use Rattle.std.proofs.lemmas.List.Elements.{All-push}
 use Rattle.fleet_base.specs.Lists.{row_of}
-use Rattle.fleet_base.specs.Bytes.{whole_lines, pieces_of, all_but_last, without_cr}
+use Rattle.fleet_base.specs.Bytes.{whole_lines, pieces_of, all_but_last, without_cr, last_piece}
 use Rattle.cert_tree.specs.declared.node.CertPath.{CertPath}
 use Rattle.cert_tree.specs.declared.node.Node.{Node}
 use Rattle.cert_tree.specs.declared.node.Node.TheVariants.{Branch, Force, Cyclic, Bound, OpenLeaf}
@@ -13,7 +13,7 @@ use Rattle.cert_tree.specs.declared.line.Line.{Line}
 use Rattle.cert_tree.specs.declared.line.Line.TheVariants as said
 use Rattle.cert_tree.specs.declared.fault.LineFault.{LineFault}
 use Rattle.cert_tree.specs.declared.fault.LineFault.TheVariants as line_fault
-use Rattle.cert_tree.specs.CertText.{cert_lines, node_lines, last_piece, AreCertLines, IsCertText, IsWritten, HasNumbers}
+use Rattle.cert_tree.specs.CertText.{cert_lines, node_lines, AreCertLines, IsCertText, IsWritten, HasNumbers}
 use Rattle.cert_tree.specs.CertFaults.{IsFaultLine, CertFaultIs, ReadsAs}
 use Rattle.cert_tree.specs.Reading.{IsLine, AddsPath, HasNextRobot, IfMalformed, fault_at}
 use Rattle.cert_tree.proofs.SameNodes.{same_nodes, same_path, Fine}

@@ -4,13 +4,13 @@ use Rattle.std.specs.Prelude.{All, codes, map}
 use Rattle.fleet_base.specs.declared.order.PairId.{PairId}
 use Rattle.fleet_base.specs.declared.order.Side.{Side}
 use Rattle.fleet_base.specs.declared.order.Side.TheVariants.{Lower, Higher}
-use Rattle.fleet_base.specs.Bytes.{field, pieces_of, all_but_last, without_cr, whole_lines}
+use Rattle.fleet_base.specs.Bytes.{field, pieces_of, all_but_last, without_cr, whole_lines, last_piece}
 use Rattle.fleet_base.proofs.LineLaws.{AtLeast, AtLeast-append, AtLeast_by, AllAtLeast, field-at_least}
 use Rattle.cert_tree.specs.declared.node.CertPath.{CertPath}
 use Rattle.cert_tree.specs.declared.node.Node.{Node}
 use Rattle.cert_tree.specs.declared.node.Node.TheVariants.{Branch, Force, Cyclic, Bound, OpenLeaf}
-use Rattle.cert_tree.specs.CertText.{cert_text, cert_lines, text_of_lines, path_line, pair_fields, pair_numbers, side_word, last_piece, IsCertText, IsWritten, HasNumbers}
-use Rattle.cert_tree.proofs.LineEnds.{HasNoLf, pieces_first, without_cr_kept}
+use Rattle.cert_tree.specs.CertText.{cert_text, cert_lines, text_of_lines, path_line, pair_fields, pair_numbers, side_word, IsCertText, IsWritten, HasNumbers}
+use Rattle.fleet_base.proofs.Pieces.{HasNoLf, pieces_first, without_cr_kept}
 
 -- no byte of a line is a control character
 numbers_plain : (ps : List PairId) → AtLeast 32 (pair_numbers ps)

@@ -1,11 +1,11 @@
 -- Where a text leaves the grammar of certificates, and what a reader answers.
 use Rattle.std.specs.Prelude.{ℕ, ◌≡◌, ◌≢◌, ◌⊎◌, ◌+◌, ◌-◌, ◌≤◌, List, [], length, take, Result, Ok, Err}
 use Rattle.fleet_base.specs.declared.lists.Items.{Items}
-use Rattle.fleet_base.specs.Bytes.{whole_lines, pieces_of}
+use Rattle.fleet_base.specs.Bytes.{whole_lines, pieces_of, last_piece}
 use Rattle.cert_tree.specs.declared.node.Node.{Node}
 use Rattle.cert_tree.specs.declared.fault.CertError.{CertError}
 use Rattle.cert_tree.specs.declared.fault.CertError.TheVariants as cert_error
-use Rattle.cert_tree.specs.CertText.{AreCertLines, last_piece}
+use Rattle.cert_tree.specs.CertText.{AreCertLines}
 
 -- The lines above this one, counted from 1, are those of a certificate. With it they are not, or it has no line end.
 pub record IsFaultLine (text : List ℕ) (line : ℕ) : Type 0 where

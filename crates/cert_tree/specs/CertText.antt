@@ -4,7 +4,7 @@ use Rattle.std.specs.List.Sorted.{IsStrictlyIncreasing}
 use Rattle.fleet_base.specs.declared.order.PairId.{PairId}
 use Rattle.fleet_base.specs.declared.order.Side.{Side}
 use Rattle.fleet_base.specs.declared.order.Side.TheVariants.{Lower, Higher}
-use Rattle.fleet_base.specs.Bytes.{field, whole_lines, pieces_of}
+use Rattle.fleet_base.specs.Bytes.{field, whole_lines, pieces_of, last_piece}
 use Rattle.cert_tree.specs.declared.node.CertPath.{CertPath}
 use Rattle.cert_tree.specs.declared.node.Node.{Node}
 use Rattle.cert_tree.specs.declared.node.Node.TheVariants.{Branch, Force, Cyclic, Bound, OpenLeaf}
@@ -71,12 +71,6 @@ pub record AreCertLines (lines : List (List ℕ)) (nodes : List Node) : Type 0 w
   pub is : lines ≡ cert_lines nodes
   pub written : All IsWritten nodes
   pub numbers : All HasNumbers nodes
-
--- what follows the last line end
-abbrev pub last_piece : List (List ℕ) → List ℕ
-last_piece [] = []
-last_piece (piece ∷ []) = piece
-last_piece (piece ∷ next ∷ pieces) = last_piece (next ∷ pieces)
 
 -- the text is that of a certificate, whose lines all have their ends
 pub record IsCertText (text : List ℕ) (nodes : List Node) : Type 0 where

@@ -1,6 +1,7 @@
-ghost use Rattle.std.specs.Prelude.{◌≡◌, ◌<◌, ◌==◌, ◌∷◌, [], length, IfNone, IfSome, position};
-ghost use Rattle.fleet_base.specs.Bytes.{without_cr, pieces_of, whole_lines};
-ghost use Rattle.cert_tree.specs.CertText.{last_piece};
+ghost use Rattle.std.specs.Prelude.{◌≡◌, ◌<◌, ◌∷◌, [], length, IfNone, IfSome};
+ghost use Rattle.fleet_base.specs.Bytes.{pieces_of, whole_lines, last_piece};
+
+use fleet_base::{line_end, without_return};
 
 /// The first line of a text, without its line end, and the text behind it. None where the text has no line end.
 pub fn next_line(text: &[u8]) -> Option<(&[u8], &[u8])>
@@ -12,24 +13,5 @@ pub fn next_line(text: &[u8]) -> Option<(&[u8], &[u8])>
     match line_end(text) {
         Some(end) => Some((without_return(&text[..end]), &text[end + 1..])),
         None => None,
-    }
-}
-
-/// Where the first LF stands.
-fn line_end(text: &[u8]) -> Option<usize>
-    ensures { result ≡ position (λ byte. byte == 10) text.now }
-{
-    text.iter().position(|byte| *byte == b'\n')
-}
-
-/// A line without the CR at its end, if there is one.
-fn without_return(line: &[u8]) -> &[u8]
-    ensures { result.now ≡ without_cr line.now }
-{
-    let len = line.len();
-    if len > 0 && line[len - 1] == b'\r' {
-        &line[..len - 1]
-    } else {
-        line
     }
 }

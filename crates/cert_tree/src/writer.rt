@@ -1,11 +1,10 @@
 ghost use Rattle.std.specs.Prelude.{◌≡◌, ◌++◌, ◌∷◌, [], OnOk, OnErr, All, map};
-ghost use Rattle.fleet_base.specs.Bytes.{field};
+ghost use Rattle.fleet_base.specs.Bytes.{field, AppendsFront};
 ghost use Rattle.cert_tree.specs.declared.node.Node.TheVariants.{Bound, Cyclic, Force};
 ghost use Rattle.cert_tree.specs.CertText.{IsWritten, cert_text, node_lines, path_line, pair_fields, pair_numbers, side_word, text_of_lines};
-ghost use Rattle.cert_tree.specs.Writing.{AppendsFront};
 
 use crate::{Cert, CertPath, Node};
-use fleet_base::{Memory, PairId, Side, Text, push_number};
+use fleet_base::{Memory, PairId, Side, Text, push_bytes, push_number};
 
 /// Appends the text of a certificate: the lines of its nodes, each with its LF. For want of memory some of it is missing
 /// at the end.
@@ -130,14 +129,4 @@ fn side_bytes(side: Side) -> &'static [u8]
         Side::Lower => b" lower",
         Side::Higher => b" higher",
     }
-}
-
-fn push_bytes(out: &mut Text, bytes: &[u8]) -> Result<(), Memory>
-    ensures ok { OnOk result (out.new ≡ out.old ++ bytes.now) }
-    ensures err { OnErr result (AppendsFront out.old out.new bytes.now) }
-{
-    for byte in bytes {
-        out.push(*byte)?;
-    }
-    Ok(())
 }

@@ -1,7 +1,9 @@
 -- What a number is spelled like, and what the parser of std reads.
-use Rattle.std.proofs.Common.{ℕ, suc, zero, ◌≡◌, ◌+◌, ◌/◌, ◌%◌, ◌^◌, ◌<◌, ◌≤◌, List, [], ◌∷◌, ◌++◌, refl, sym, ap, ◌∙◌, subst, inl, inr, arith, length, get_or}
+use Rattle.std.proofs.Common.{ℕ, suc, zero, ◌≡◌, ◌+◌, ◌/◌, ◌%◌, ◌^◌, ◌<◌, ◌≤◌, List, [], ◌∷◌, ◌++◌, refl, sym, ap, ◌∙◌, subst, inl, inr, ⊎_elim, None, arith, length, get_or}
 use Rattle.std.proofs.lemmas.List.{append_assoc}
 use Rattle.std.specs.Prelude.{decimal, Result, Ok, Err}
+use Rattle.std.specs.Result.{OkIff, result_ok}
+use Rattle.std.proofs.lemmas.Bool.{cases_lt}
 use Rattle.std.proofs.lemmas.Result.{OkIff-at_ok, OkIff-at_err}
 use Rattle.std.specs.Str.{IsUtf8}
 use Rattle.std.specs.Str.Parse.{AllDigits, digits_value, ParsesUnsigned}
@@ -66,3 +68,8 @@ before_last n front ten fits p =
 -- the digits before the last one
 pub all_but_last_digit : (n : ℕ) → 10 ≤ n → n < 2 ^ 64 → IsPrefix (decimal (n / 10)) (decimal n)
 all_but_last_digit n ten fits = ((48 + n % 10) ∷ [], sym (decimal_step n ten fits))
+
+-- what does not fit a narrower type
+pub too_large : {E : Type 0} → (r : Result ℕ E) (n bound : ℕ) → OkIff r (n < bound) n → None ≡ result_ok r → bound ≤ n
+too_large (Ok x) n bound h e = cc
+too_large (Err d) n bound h e = ⊎_elim (λ lt. absurd (h lt)) (λ le. le) (cases_lt n bound)

@@ -1,5 +1,5 @@
 ghost use Rattle.std.specs.Prelude.{◌≡◌, ◌++◌, ◌↔◌, ℕ, List, IsSome, IfSome, IfNone, IsTrue, OnOk, OnErr, decimal};
-ghost use Rattle.fleet_base.specs.Bytes.{IsNumber, IsPrefix, HasSignOrLeadingZero};
+ghost use Rattle.fleet_base.specs.Bytes.{IsNumber, AppendsFront, HasSignOrLeadingZero};
 
 use crate::{Memory, Text};
 
@@ -33,7 +33,7 @@ fn has_sign_or_leading_zero(text: &[u8]) -> bool
 /// Appends the digits of a number; for want of memory some of them are missing at the end.
 pub fn push_number(out: &mut Text, value: u64) -> Result<(), Memory>
     ensures ok { OnOk result (out.new ≡ out.old ++ decimal value) }
-    ensures err { OnErr result ((front : List ℕ) × IsPrefix front (decimal value) × (out.new ≡ out.old ++ front)) }
+    ensures err { OnErr result (AppendsFront out.old out.new (decimal value)) }
 {
     let digit = b'0' + (value % 10) as u8;
     if value < 10 {

@@ -3,8 +3,8 @@ ghost use Rattle.std.specs.Prelude.{◌≡◌, ◌++◌, codes, OnOk};
 ghost use Rattle.fleet_cli.specs.Lines.{fields, fault_line, unsound_line, paper_word, map_word, plan_word, large_word};
 
 use crate::fault::{Fault, Paper};
-use crate::writing::{push_bytes, push_fields, push_robots};
-use fleet_base::{Memory, Text};
+use crate::writing::{push_fields, push_robots};
+use fleet_base::{Memory, Text, push_bytes};
 use map_text::MapKind;
 use plan_check::{Large, Unsound};
 use plan_text::PlanKind;

@@ -7,8 +7,8 @@ ghost use Rattle.fleet_serve.specs.Told.{Told};
 ghost use Rattle.fleet_cli.specs.Refusing.{SaysRefusal, IsRefusedSo, HasNoLine};
 
 use crate::saying::say;
-use crate::writing::{push_bytes, push_fields};
-use fleet_base::{Memory, Status, Text};
+use crate::writing::push_fields;
+use fleet_base::{Memory, Status, Text, push_bytes};
 use fleet_journal::JournalError;
 use fleet_recovery::RecoverError;
 use station_api::Station;

@@ -9,8 +9,8 @@ use crate::fault::{Fault, Refusal};
 use crate::lines::push_fault;
 use crate::papers::{Papers, Sound, read_papers, sound_of};
 use crate::words::{Command, read_words};
-use crate::writing::{push_bytes, push_fields};
-use fleet_base::{Memory, Status, Text};
+use crate::writing::push_fields;
+use fleet_base::{Memory, Status, Text, push_bytes};
 use station_api::Shelf;
 use std::alloc::Global;
 

@@ -4,16 +4,6 @@ ghost use Rattle.fleet_cli.specs.Lines.{fields};
 
 use fleet_base::{Memory, Text, push_number};
 
-/// Appends bytes.
-pub fn push_bytes(out: &mut Text, bytes: &[u8]) -> Result<(), Memory>
-    ensures { OnOk result (out.new ≡ out.old ++ bytes.now) }
-{
-    for byte in bytes {
-        out.push(*byte)?;
-    }
-    Ok(())
-}
-
 /// Appends numbers, each with a space in front.
 pub fn push_fields(out: &mut Text, numbers: &[u64]) -> Result<(), Memory>
     ensures { OnOk result (out.new ≡ out.old ++ fields numbers.now) }

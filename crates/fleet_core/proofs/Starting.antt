@@ -9,12 +9,11 @@ use Rattle.fleet_base.specs.Plan.{AreRoutes}
 use Rattle.fleet_base.specs.Order.{Graph, IsGraph, HasEdge, graph_of, plan_order}
 use Rattle.fleet_base.specs.State.{FleetState, start_of, IsFleetOf}
 use Rattle.fleet_base.proofs.GraphLaws.{length-map, get_or-map}
-use Rattle.fleet_base.proofs.PlanOrder.{second_is_later}
 use Rattle.fleet_base.proofs.PlanSound.{routes_graph}
 use Rattle.fleet_base.proofs.Settling.{IsHeard}
 use Rattle.fleet_base.specs.Release.{IsFirstState}
 use Rattle.fleet_base.specs.Rules.{IsFleetState}
-use Rattle.fleet_base.proofs.FirstState.{first_state_keeps}
+use Rattle.fleet_base.proofs.FirstState.{routes_later, first_state_keeps}
 use Rattle.release_rule.specs.Releasing.{IsReadyToRelease, IsNewlyReleased}
 use Rattle.fleet_core.specs.Pushing.{pushed, HaveRoom}
 use Rattle.fleet_core.proofs.Pushing.{release_state, release_room}
@@ -51,11 +50,6 @@ module _ (g : Graph) (good : IsGraph g) (later : (q : ℕ) (u v : Visit) → Has
     reach = λ i h. omega (arith, ap length (one_row i h));
     clear = λ i h q u v e r m. absurd (omega (arith, m, later q u v e, ap length (one_row i h)));
   }
-
-routes_later : (routes : List (List PlannedVisit)) → AreRoutes routes → (q : ℕ) (u v : Visit) → HasEdge (graph_of routes) (plan_order (graph_of routes)) q u v → 1 ≤ v.index
-routes_later routes r =
-    subst (λ (rs : List (List PlannedVisit)). (q : ℕ) (u v : Visit) → HasEdge (graph_of rs) (plan_order (graph_of rs)) q u v → 1 ≤ v.index) (sym r.visits)
-    (second_is_later r.plan r.accepted.sound.apart)
 
 -- ---- the first releases of a plan
 

@@ -8,7 +8,7 @@ use Rattle.station_api.proofs.Moments.{leaves_also}
 use Rattle.fleet_serve.specs.Turns.{TurnMade}
 use Rattle.fleet_serve.specs.Serving.{Course, Makes, IsServing}
 use Rattle.fleet_serve.specs.Reading.{kept_of}
-use Rattle.fleet_serve.proofs.Texts.{without_cr-length}
+use Rattle.fleet_base.proofs.Pieces.{without_cr-length}
 use Rattle.fleet_serve.proofs.TurnLaws.{another_long_line}
 use Rattle.fleet_serve.proofs.TurnMoments.{serving_line}
 

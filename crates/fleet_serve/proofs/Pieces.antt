@@ -3,8 +3,8 @@ use Rattle.std.proofs.Common.{ℕ, ◌≡◌, ◌≢◌, Bool, true, false, List
 use Rattle.std.specs.Prelude.{◌==◌}
 use Rattle.std.proofs.lemmas.List.{map-append}
 use Rattle.std.proofs.lemmas.Bool.{eqb-true}
-use Rattle.fleet_base.specs.Bytes.{pieces_of, in_front, all_but_last, without_cr, whole_lines}
-use Rattle.fleet_serve.specs.Reading.{last_piece, unfinished, IsUnfinished}
+use Rattle.fleet_base.specs.Bytes.{pieces_of, in_front, all_but_last, last_piece, without_cr, whole_lines}
+use Rattle.fleet_serve.specs.Reading.{unfinished, IsUnfinished}
 
 -- there is a piece at least
 abbrev pub Some_piece : List (List ℕ) → Type 0

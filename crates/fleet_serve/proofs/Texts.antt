@@ -15,9 +15,9 @@ use Rattle.fleet_base.specs.Order.{graph_of}
 use Rattle.fleet_base.specs.State.{FleetState, arrived_count, released_count}
 use Rattle.fleet_base.specs.Release.{new_releases}
 use Rattle.fleet_base.specs.Rules.{IsFleetState}
-use Rattle.fleet_base.specs.Bytes.{without_cr}
 use Rattle.fleet_base.specs.World.{release_line}
 use Rattle.fleet_base.proofs.GraphLaws.{length-map, last_is, route_is_some}
+use Rattle.fleet_base.proofs.Ranges.{range_more}
 use Rattle.fleet_base.proofs.Members.{from_flat_map, from_range}
 use Rattle.fleet_base.proofs.AllVisits.{from_map}
 use Rattle.fleet_serve.specs.Lines.{text_of, release_lines, pending_of}
@@ -57,19 +57,6 @@ pending_none x i k h =
     ap (λ (n : ℕ). map (visit i) (range_with_len (arrived_count x i) n)) e
 
 -- ---- the releases of all robots that have not arrived
-
-map_same : (xs : List ℕ) → map (λ (k : ℕ). k) xs ≡ xs
-map_same [] = refl
-map_same (y ∷ ys) = ap (λ (l : List ℕ). y ∷ l) (map_same ys)
-
-range_more : (n : ℕ) → range 0 (n + 1) ≡ range 0 n ++ n ∷ []
-range_more n =
-    let e : (n + 1) - 0 ≡ n + 1 = omega arith in
-    let f : n ≡ n - 0 = omega arith in
-    ap (range_with_len 0) e
-    ∙ sym (map_same (range_with_len 0 (n + 1)))
-    ∙ map-range_with_len_more (λ (k : ℕ). k) 0 n n (omega arith)
-    ∙ ap (λ (l : List ℕ). l ++ n ∷ []) (map_same (range_with_len 0 n) ∙ ap (range_with_len 0) f)
 
 pub robots_more : (x : FleetState) (n : ℕ) → flat_map (pending_of x) (range 0 (n + 1)) ≡ flat_map (pending_of x) (range 0 n) ++ pending_of x n
 robots_more x n =
@@ -113,37 +100,3 @@ kept_more line byte h =
 
 pub kept_full : (line : List ℕ) (byte : ℕ) → 258 ≤ length (kept_of line) → kept_of line ≡ kept_of (line ++ byte ∷ [])
 kept_full line byte h = sym (take-append-le 258 line (byte ∷ []) (omega (arith, h, length-take 258 line)))
-
--- ---- the CR at the end of a line
-
-pub without_cr-push : (front : List ℕ) → without_cr (front ++ 13 ∷ []) ≡ front
-without_cr-push [] = refl
-without_cr-push (c ∷ []) = refl
-without_cr-push (c ∷ d ∷ cs) = ap (λ rest. c ∷ rest) (without_cr-push (d ∷ cs))
-
-pub without_cr-none : (line : List ℕ) → ((front : List ℕ) → line ≢ front ++ 13 ∷ []) → without_cr line ≡ line
-without_cr-none [] none = refl
-without_cr-none (c ∷ []) none = by_cr (eqb c 13) refl
-  where
-    by_cr : (b : Bool) → eqb c 13 ≡ b → without_cr (c ∷ []) ≡ c ∷ []
-    by_cr true e = absurd (none [] (ap (λ x. x ∷ []) (eqb-true c 13 e)))
-    by_cr false e = rw e refl
-without_cr-none (c ∷ d ∷ cs) none = ap (λ rest. c ∷ rest) (without_cr-none (d ∷ cs) (λ front e. none (c ∷ front) (ap (λ rest. c ∷ rest) e)))
-
-pub without_cr-shorter : (line : List ℕ) → length (without_cr line) ≤ length line
-without_cr-shorter [] = omega arith
-without_cr-shorter (c ∷ []) = by_cr (eqb c 13)
-  where
-    by_cr : (b : Bool) → length (cond b [] (c ∷ [])) ≤ 1
-    by_cr true = omega arith
-    by_cr false = omega arith
-without_cr-shorter (c ∷ d ∷ cs) = omega (arith, without_cr-shorter (d ∷ cs))
-
-pub without_cr-length : (line : List ℕ) → length line ≤ length (without_cr line) + 1
-without_cr-length [] = omega arith
-without_cr-length (c ∷ []) = by_cr (eqb c 13)
-  where
-    by_cr : (b : Bool) → 1 ≤ length (cond b [] (c ∷ [])) + 1
-    by_cr true = omega arith
-    by_cr false = omega arith
-without_cr-length (c ∷ d ∷ cs) = omega (arith, without_cr-length (d ∷ cs))

@@ -1,18 +1,12 @@
 -- Reading lines from a stream, piece by piece.
 use Rattle.std.specs.Prelude.{ℕ, ◌≡◌, List, [], ◌∷◌, ◌++◌, take, Result, Ok, Err}
-use Rattle.fleet_base.specs.Bytes.{pieces_of}
+use Rattle.fleet_base.specs.Bytes.{pieces_of, last_piece}
 use Rattle.fleet_serve.specs.declared.outcome.StepFault.{StepFault}
 use Rattle.fleet_serve.specs.declared.outcome.StepFault.TheVariants as step_fault
 use Rattle.fleet_serve.specs.Told.{Sends, SendsPart}
 use Rattle.fleet_serve.specs.Lines.{text_of}
 use Rattle.fleet_serve.specs.Turns.{TurnMade, point_after, answers_of}
 use Rattle.fleet_serve.specs.Serving.{Course, line_of, Serves, Begins}
-
--- the last of the pieces
-abbrev pub last_piece : List (List ℕ) → List ℕ
-last_piece [] = []
-last_piece (piece ∷ []) = piece
-last_piece (piece ∷ next ∷ pieces) = last_piece (next ∷ pieces)
 
 -- what follows the last LF of a text
 abbrev pub unfinished : List ℕ → List ℕ

@@ -1,6 +1,5 @@
 // The line that is being read.
 ghost use Rattle.std.specs.Prelude.{◌≡◌, ◌∷◌, ◌++◌, ◌≤◌, [], ℕ, List, length, OnOk, OnErr};
-ghost use Rattle.fleet_base.specs.Bytes.{without_cr};
 ghost use Rattle.fleet_serve.specs.Reading.{kept_of};
 
 use fleet_base::{Memory, Text};
@@ -18,15 +17,5 @@ pub fn push_kept(kept: &mut Text, byte: u8) -> Result<(), Memory>
         kept.push(byte)
     } else {
         Ok(())
-    }
-}
-
-/// A line without the CR at its end.
-pub fn trimmed(line: &[u8]) -> &[u8]
-    ensures { result.now ≡ without_cr line.now }
-{
-    match line.strip_suffix(b"\r") {
-        Some(front) => front,
-        None => line,
     }
 }

@@ -9,11 +9,11 @@ ghost use Rattle.fleet_serve.specs.Serving.{ServeLeaves, course, papers_in};
 ghost use Rattle.fleet_serve.specs.Reading.{IsUnfinished, kept_of, Hears};
 
 use crate::kit::Kit;
-use crate::lines::{push_kept, trimmed};
+use crate::lines::push_kept;
 use crate::outcome::{ServeFault, Settings, StepFault};
 use crate::papers::Papers;
 use crate::stepping::step;
-use fleet_base::{Fleet, SoundPlan, Text};
+use fleet_base::{Fleet, SoundPlan, Text, without_return};
 use fleet_journal::Journal;
 use plan_graph::PlanGraph;
 use station_api::{Source, Station};
@@ -160,7 +160,7 @@ fn hear_byte<T: Station>(
             Err(_) => Err(StepFault::Memory),
         };
     }
-    let line = trimmed(kept.as_slice());
+    let line = without_return(kept.as_slice());
     step(
         alloc, graph, plan, fleet, journal, kit, settings, papers, line, station,
     )?;

@@ -1,4 +1,3 @@
-pub mod FirstLine
 pub mod Digits
 pub mod FirstFaults
 pub mod TakenRows

@@ -17,7 +17,8 @@ use Rattle.fleet_base.specs.Bytes.{in_front, pieces_of, without_cr, without_empt
 use Rattle.map_text.specs.MapText.{IsMapText, IsRow, HasHeader, is_free_char, is_blocked_char, height_line, width_line, map_text_of, map_lines, row_text, cells_of}
 use Rattle.map_text.specs.RowFaults.{HasRows}
 use Rattle.map_text.proofs.Digits.{numeral_digit}
-use Rattle.map_text.proofs.FirstLine.{without_end-kept, pieces_cons}
+use Rattle.fleet_base.proofs.FirstLine.{without_end-kept}
+use Rattle.fleet_base.proofs.Pieces.{pieces_some}
 use Rattle.map_text.proofs.WholeMap.{whole_map}
 use Rattle.map_text.proofs.WrittenMap.{mark_of, ended}
 
@@ -54,7 +55,7 @@ without_cr-plain (c ∷ d ∷ cs) plain = let parts = head_plain c (d ∷ cs) pl
 file_lines-ended_plain : (line rest : List ℕ) → is_plain line ≡ true → file_lines (line ++ 10 ∷ rest) ≡ line ∷ file_lines rest
 file_lines-ended_plain line rest plain =
     ap (λ pieces. map without_cr (without_empty_end pieces)) (pieces_of-ended line rest plain)
-    ∙ ap (λ pieces. map without_cr pieces) (without_end-kept line (pieces_of rest) _ _ (pieces_cons rest).2)
+    ∙ ap (λ pieces. map without_cr pieces) (without_end-kept line (pieces_of rest) _ _ (pieces_some rest).2)
     ∙ ap (λ first. first ∷ file_lines rest) (without_cr-plain line plain)
 
 -- the lines of a text that was made of plain lines

@@ -5,8 +5,9 @@ ghost use Rattle.map_text.specs.MapText.{IsSize, HasHeader};
 ghost use Rattle.map_text.specs.MapFaults.{IsWrongSide, IsMapFault};
 
 use crate::fault::{MapFault, MapKind};
-use crate::lines::{first_line, skip_line};
+use crate::lines::skip_line;
 use crate::numerals::{LARGEST, capped_number};
+use fleet_base::first_line;
 
 /// The sides of a map, and the text after its header.
 #[derive(Clone, Copy, Debug)]

@@ -8,9 +8,8 @@ ghost use Rattle.map_text.specs.RowFaults.{AreBlank, IsBlankFault};
 
 use crate::fault::{MapError, MapFault, MapKind};
 use crate::header::read_header;
-use crate::lines::first_line;
 use crate::rows::read_rows;
-use fleet_base::Grid;
+use fleet_base::{Grid, first_line};
 use std::alloc::Global;
 
 /// Reads a map: four lines of header, `type octile`, `height` and a number, `width` and a number, and `map`,

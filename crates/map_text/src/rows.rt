@@ -5,7 +5,7 @@ ghost use Rattle.map_text.specs.MapText.{IsSize, is_free_char, is_blocked_char, 
 ghost use Rattle.map_text.specs.RowFaults.{HasRows, TakesRow, RowFaultIs, RowsFaultIs, CharFaultIs};
 
 use crate::fault::{MapError, MapFault, MapKind};
-use crate::lines::first_line;
+use fleet_base::first_line;
 use std::alloc::Global;
 
 /// Reads the rows of a map below its header, and gives its cells and the text after the rows.

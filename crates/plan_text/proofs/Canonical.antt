@@ -8,7 +8,8 @@ use Rattle.std.proofs.lemmas.List.{append_assoc}
 use Rattle.fleet_base.specs.declared.geometry.Cell.{Cell}
 use Rattle.fleet_base.specs.Bytes.{numeral, without_cr, file_lines}
 use Rattle.plan_text.specs.PlanText.{cell_text, path_text, label_of, IsWritable, AreRobotLines, without_empty_lines, robot_lines, plan_text_from, plan_text_of, IsPlanText}
-use Rattle.plan_text.proofs.LineLaws.{HasNoLf, lines_first, without_cr-other}
+use Rattle.fleet_base.proofs.Pieces.{HasNoLf, without_cr-other}
+use Rattle.plan_text.proofs.LineLaws.{lines_first}
 
 -- no LF in two texts, one behind the other
 none-append : (xs ys : List ℕ) → HasNoLf xs → HasNoLf ys → HasNoLf (xs ++ ys)

@@ -2,7 +2,7 @@ ghost use Rattle.std.specs.Prelude.{◌≡◌, ◌++◌, OnOk};
 ghost use Rattle.fleet_base.specs.Bytes.{numeral};
 ghost use Rattle.plan_text.specs.PlanText.{cell_text, path_text, label_of};
 
-use fleet_base::{Cell, Memory, Text, push_number};
+use fleet_base::{Cell, Memory, Text, push_bytes, push_number};
 
 /// Appends what the line of a robot begins with; for want of memory some of it is missing at the end.
 pub fn push_label(out: &mut Text, robot: u32) -> Result<(), Memory>
@@ -40,13 +40,4 @@ fn push_numeral(out: &mut Text, number: u32) -> Result<(), Memory>
     ensures { OnOk result (out.new ≡ out.old ++ numeral number) }
 {
     push_number(out, u64::from(number))
-}
-
-fn push_bytes(out: &mut Text, bytes: &[u8]) -> Result<(), Memory>
-    ensures { OnOk result (out.new ≡ out.old ++ bytes.now) }
-{
-    for byte in bytes {
-        out.push(*byte)?;
-    }
-    Ok(())
 }

@@ -1,26 +1,15 @@
 -- What an append leaves when memory runs out on the way: a front of the whole text.
-use Rattle.std.proofs.Common.{ℕ, ◌≡◌, ◌+◌, ◌<◌, List, [], ◌∷◌, ◌++◌, sym, ap, ◌∙◌, length, get_or, take, drop, append_assoc}
+use Rattle.std.proofs.Common.{ℕ, ◌≡◌, ◌+◌, ◌<◌, List, [], ◌∷◌, ◌++◌, sym, ap, subst, ◌∙◌, length, get_or, take, drop, append_assoc}
 use Rattle.std.specs.Prelude.{decimal, flat_map}
 use Rattle.std.proofs.lemmas.Grind.{flat_map-append}
 use Rattle.std.proofs.lemmas.List.{append-nil, take-append-drop, drop_more}
-use Rattle.fleet_base.specs.Bytes.{field}
+use Rattle.fleet_base.specs.Bytes.{field, AppendsFront}
+use Rattle.fleet_base.proofs.Appending.{front_first, front_behind, stays_behind}
 use Rattle.report_text.specs.Reading.{spelled}
-use Rattle.report_text.specs.Writing.{AppendsFront}
 
 -- after some of the whole text, a front of the next piece
-front_behind : (old mid new done piece rest whole : List ℕ) → mid ≡ old ++ done → done ++ (piece ++ rest) ≡ whole → AppendsFront mid new piece → AppendsFront old new whole
-front_behind old mid new done piece rest whole is parts (front, (more, e), after) =
-    (done ++ front, (more ++ rest, cut), after ∙ ap (λ (l : List ℕ). l ++ front) is ∙ append_assoc old done front)
-  where
-    cut : (done ++ front) ++ (more ++ rest) ≡ whole
-    cut = append_assoc done front (more ++ rest) ∙ ap (λ (l : List ℕ). done ++ l) (sym (append_assoc front more rest) ∙ ap (λ (l : List ℕ). l ++ rest) e) ∙ parts
-
--- after some of the whole text, nothing
-pub stays_behind : (old mid new done rest whole : List ℕ) → mid ≡ old ++ done → done ++ rest ≡ whole → new ≡ mid → AppendsFront old new whole
-stays_behind old mid new done rest whole is parts same = (done, (rest, parts), same ∙ is)
-
-pub bytes_left : (old mid new bytes : List ℕ) (i : ℕ) → mid ≡ old ++ take i bytes → new ≡ mid → AppendsFront old new bytes
-bytes_left old mid new bytes i is same = stays_behind old mid new (take i bytes) (drop i bytes) bytes is (take-append-drop i bytes) same
+front_between : (old mid new done piece rest whole : List ℕ) → mid ≡ old ++ done → done ++ (piece ++ rest) ≡ whole → AppendsFront mid new piece → AppendsFront old new whole
+front_between old mid new done piece rest whole is parts left = subst (AppendsFront old new) parts (front_behind old mid new done (piece ++ rest) is (front_first mid new piece rest left))
 
 fields_cut : (ns : List ℕ) (i : ℕ) → flat_map field (take i ns) ++ flat_map field (drop i ns) ≡ flat_map field ns
 fields_cut ns i = sym (flat_map-append field (take i ns) (drop i ns)) ∙ ap (flat_map field) (take-append-drop i ns)
@@ -31,7 +20,7 @@ fields_left old mid new ns i is same =
 
 pub number_left : (old mid spaced new ns : List ℕ) (i : ℕ) → i < length ns → mid ≡ old ++ flat_map field (take i ns) → spaced ≡ mid ++ 32 ∷ [] → AppendsFront spaced new (decimal (get_or ns i 0)) → AppendsFront old new (flat_map field ns)
 number_left old mid spaced new ns i inside is space left =
-    front_behind old spaced new (flat_map field (take i ns) ++ 32 ∷ []) (decimal (get_or ns i 0)) (flat_map field (drop (i + 1) ns)) (flat_map field ns) before parts left
+    front_between old spaced new (flat_map field (take i ns) ++ 32 ∷ []) (decimal (get_or ns i 0)) (flat_map field (drop (i + 1) ns)) (flat_map field ns) before parts left
   where
     before : spaced ≡ old ++ (flat_map field (take i ns) ++ 32 ∷ [])
     before = space ∙ ap (λ (l : List ℕ). l ++ 32 ∷ []) is ∙ append_assoc old (flat_map field (take i ns)) (32 ∷ [])
@@ -42,8 +31,8 @@ number_left old mid spaced new ns i inside is space left =
 
 pub words_left : (old new words numbers : List ℕ) → AppendsFront old new words → AppendsFront old new (spelled words numbers ++ 10 ∷ [])
 words_left old new words numbers left =
-    front_behind old old new [] words (flat_map field numbers ++ 10 ∷ []) (spelled words numbers ++ 10 ∷ []) (sym (append-nil old)) (sym (append_assoc words (flat_map field numbers) (10 ∷ []))) left
+    front_between old old new [] words (flat_map field numbers ++ 10 ∷ []) (spelled words numbers ++ 10 ∷ []) (sym (append-nil old)) (sym (append_assoc words (flat_map field numbers) (10 ∷ []))) left
 
 pub numbers_left : (old mid new words numbers : List ℕ) → mid ≡ old ++ words → AppendsFront mid new (flat_map field numbers) → AppendsFront old new (spelled words numbers ++ 10 ∷ [])
 numbers_left old mid new words numbers is left =
-    front_behind old mid new words (flat_map field numbers) (10 ∷ []) (spelled words numbers ++ 10 ∷ []) is (sym (append_assoc words (flat_map field numbers) (10 ∷ []))) left
+    front_between old mid new words (flat_map field numbers) (10 ∷ []) (spelled words numbers ++ 10 ∷ []) is (sym (append_assoc words (flat_map field numbers) (10 ∷ []))) left

@@ -189,8 +189,3 @@ pub not_small : (words : List ℕ) (count : ℕ) (line numbers : List ℕ) (at :
 not_small words count line numbers at fit is inside large (ns, n, small, e) =
     let same = same_numbers ns numbers (all_small-fit ns small) fit (append_cancel_left words (flat_map field ns) (flat_map field numbers) (sym e ∙ is)) in
     omega (arith, large, small_at numbers at (subst AllSmall same small) inside)
-
--- what does not fit a narrower type
-pub too_large : {E : Type 0} → (r : Result ℕ E) (n bound : ℕ) → OkIff r (n < bound) n → None ≡ result_ok r → bound ≤ n
-too_large (Ok x) n bound h e = cc
-too_large (Err d) n bound h e = ⊎_elim (λ lt. absurd (h lt)) (λ le. le) (cases_lt n bound)

@@ -5,7 +5,7 @@ ghost use Rattle.fleet_base.specs.declared.order.PairId.{PairId};
 ghost use Rattle.fleet_base.specs.declared.report.Why.{Why};
 ghost use Rattle.report_text.specs.declared.answer.Answer.{Answer};
 ghost use Rattle.report_text.specs.AnswerLine.{answer_text, word_of, IsAnswerLine};
-ghost use Rattle.report_text.specs.Writing.{AppendsFront};
+ghost use Rattle.fleet_base.specs.Bytes.{AppendsFront};
 
 use crate::reading::{numbers, small_numbers};
 use crate::writing::push_line;

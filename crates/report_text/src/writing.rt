@@ -1,9 +1,8 @@
 ghost use Rattle.std.specs.Prelude.{◌≡◌, [], ◌∷◌, ◌++◌, OnOk, OnErr, flat_map};
-ghost use Rattle.fleet_base.specs.Bytes.{field};
+ghost use Rattle.fleet_base.specs.Bytes.{field, AppendsFront};
 ghost use Rattle.report_text.specs.Reading.{spelled};
-ghost use Rattle.report_text.specs.Writing.{AppendsFront};
 
-use fleet_base::{Memory, Text, push_number};
+use fleet_base::{Memory, Text, push_bytes, push_number};
 
 /// Appends the line of these words and numbers and its line end. For want of memory some of it is
 /// missing at the end.
@@ -25,16 +24,6 @@ fn push_fields(out: &mut Text, numbers: &[u64]) -> Result<(), Memory>
     for number in numbers {
         out.push(b' ')?;
         push_number(out, *number)?;
-    }
-    Ok(())
-}
-
-fn push_bytes(out: &mut Text, bytes: &[u8]) -> Result<(), Memory>
-    ensures ok { OnOk result (out.new ≡ out.old ++ bytes.now) }
-    ensures err { OnErr result (AppendsFront out.old out.new bytes.now) }
-{
-    for byte in bytes {
-        out.push(*byte)?;
     }
     Ok(())
 }

@@ -1,13 +1,8 @@
 -- A number that does not fit is no number below 2^32, since a text takes one number.
-use Rattle.std.proofs.Common.{ℕ, ◌≡◌, ◌<◌, ◌≤◌, ◌^◌, Ok, Err, None, Result, ⊎_elim, arith}
-use Rattle.std.specs.Result.{OkIff, result_ok}
-use Rattle.std.proofs.lemmas.Bool.{cases_lt}
+use Rattle.std.proofs.Common.{ℕ, ◌≡◌, ◌<◌, ◌≤◌, ◌^◌, arith}
+use Rattle.fleet_base.proofs.Numbers.{too_large}
 use Rattle.cert_tree.proofs.FieldLaws.{taken_once}
 use Rattle.cert_tree.proofs.fields.small_number.Goals as goal
-
-too_large : {E : Type 0} → (r : Result ℕ E) (n bound : ℕ) → OkIff r (n < bound) n → None ≡ result_ok r → bound ≤ n
-too_large (Ok x) n bound h e = cc
-too_large (Err d) n bound h e = ⊎_elim (λ lt. absurd (h lt)) (λ le. le) (cases_lt n bound)
 
 pub returns-in_err-ok-clause-none : goal.returns-in_err-ok-clause-none
 returns-in_err-ok-clause-none c =

@@ -1,7 +1,6 @@
 use Rattle.std.proofs.Common.{◌+◌, drop, sym, ◌∙◌, ap, ◌∷◌}
 use Rattle.std.proofs.lemmas.List.{take_rest}
-use Rattle.fleet_base.specs.Bytes.{pieces_of, whole_lines}
-use Rattle.cert_tree.specs.CertText.{last_piece}
+use Rattle.fleet_base.specs.Bytes.{pieces_of, whole_lines, last_piece}
 use Rattle.cert_tree.proofs.LineEnds.{lines_at, last_at, no_line_end}
 use Rattle.cert_tree.proofs.lines.next_line.Goals as goal
 

@@ -1,7 +1,7 @@
 use Rattle.std.proofs.Common.{[], ◌∷◌, ◌++◌}
 use Rattle.std.proofs.lemmas.Result.{err_from_is_err_and}
 use Rattle.fleet_base.specs.Bytes.{field}
-use Rattle.cert_tree.proofs.Appending.{front_first}
+use Rattle.fleet_base.proofs.Appending.{front_first}
 use Rattle.cert_tree.proofs.writer.push_line.Goals as goal
 
 pub returns-in_err-push_words-clause-err : goal.returns-in_err-push_words-clause-err

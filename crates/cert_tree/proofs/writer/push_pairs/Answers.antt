@@ -2,7 +2,7 @@ use Rattle.std.proofs.Common.{[], ◌∷◌, length}
 use Rattle.std.proofs.lemmas.Result.{err_from_is_err_and}
 use Rattle.fleet_base.specs.Bytes.{field}
 use Rattle.cert_tree.specs.CertText.{pair_fields, pair_numbers}
-use Rattle.cert_tree.proofs.Appending.{front_first, front_behind}
+use Rattle.fleet_base.proofs.Appending.{front_first, front_behind}
 use Rattle.cert_tree.proofs.writer.push_pairs.Goals as goal
 
 pub returns-in_err-push_field-clause-err : goal.returns-in_err-push_field-clause-err

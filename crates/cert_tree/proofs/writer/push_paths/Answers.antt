@@ -2,7 +2,7 @@ use Rattle.std.proofs.Common.{[], ◌∷◌, ◌++◌, ◌∙◌, ap, subst, tak
 use Rattle.std.proofs.lemmas.Result.{err_from_is_err_and}
 use Rattle.cert_tree.specs.declared.node.CertPath.{CertPath}
 use Rattle.cert_tree.specs.CertText.{path_line}
-use Rattle.cert_tree.specs.Writing.{AppendsFront}
+use Rattle.fleet_base.specs.Bytes.{AppendsFront}
 use Rattle.cert_tree.proofs.Appending.{pieces_left, text_by_paths}
 use Rattle.cert_tree.proofs.writer.push_paths.Goals as goal
 

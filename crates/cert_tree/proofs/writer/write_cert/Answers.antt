@@ -2,7 +2,7 @@ use Rattle.std.proofs.Common.{◌++◌, ◌∙◌, ap, subst, take, get_or, leng
 use Rattle.std.proofs.lemmas.Result.{err_from_is_err_and}
 use Rattle.cert_tree.specs.declared.node.Node.{Node}
 use Rattle.cert_tree.specs.CertText.{node_lines, text_of_lines}
-use Rattle.cert_tree.specs.Writing.{AppendsFront}
+use Rattle.fleet_base.specs.Bytes.{AppendsFront}
 use Rattle.cert_tree.proofs.Appending.{pieces_left, text_by_nodes}
 use Rattle.cert_tree.proofs.writer.write_cert.Goals as goal
 

@@ -4,7 +4,7 @@ use Rattle.fleet_base.specs.Bytes.{without_cr}
 use Rattle.fleet_serve.specs.declared.outcome.StepFault.{StepFault}
 use Rattle.fleet_serve.specs.Serving.{Course, course, papers_in}
 use Rattle.fleet_serve.specs.Reading.{kept_of, Hears}
-use Rattle.fleet_serve.proofs.Texts.{without_cr-shorter}
+use Rattle.fleet_base.proofs.Pieces.{without_cr-shorter}
 use Rattle.fleet_serve.proofs.StepMoments.{resting}
 use Rattle.fleet_serve.proofs.GoingOn.{byte_heard, memory_heard, line_fault, line_served}
 use Rattle.fleet_serve.proofs.serving.hear_byte.Goals as goal
@@ -26,7 +26,7 @@ returns-in-Err-clause-heard g c line begun e =
     (resting c.args.plan.now papers limit c.args.fleet.now c.args.journal.now g.T.Station.tells clock []) refl
 
 pub step-requires-clause-line : goal.step-requires-clause-line
-step-requires-clause-line g c = omega (arith, ap length c.trimmed-line.ensures, ap length c.as_slice.ensures, without_cr-shorter c.as_slice.result.now, c.requires.short)
+step-requires-clause-line g c = omega (arith, ap length c.without_return-line.ensures, ap length c.as_slice.ensures, without_cr-shorter c.as_slice.result.now, c.requires.short)
 
 pub returns-in_err-step-clause-heard : goal.returns-in_err-step-clause-heard
 returns-in_err-step-clause-heard g c line begun e =
@@ -34,14 +34,14 @@ returns-in_err-step-clause-heard g c line begun e =
     let fault = c.in_err-step.field-0.0 in
     let p = err_from_is_err_and c.from_residual.result c.from_residual.ensures.1 in
     let ten : 10 ≡ c.args.byte = sym c.if-byte-ne10.false in
-    let part : c.trimmed-line.result.now ≡ without_cr (kept_of line) = c.trimmed-line.ensures ∙ ap without_cr (c.as_slice.ensures ∙ e) in
+    let part : c.without_return-line.result.now ≡ without_cr (kept_of line) = c.without_return-line.ensures ∙ ap without_cr (c.as_slice.ensures ∙ e) in
     subst (λ (r : Result (Unit {0}) StepFault). Hears s line (c.args.byte ∷ []) c.args.kept.now r) (sym (p.1 ∙ ap Err p.2))
-    (subst (λ (b : ℕ). Hears s line (b ∷ []) c.args.kept.now (Err fault)) ten (line_fault s line c.trimmed-line.result.now c.args.kept.now fault begun part c.in_err-step.ensures.turn))
+    (subst (λ (b : ℕ). Hears s line (b ∷ []) c.args.kept.now (Err fault)) ten (line_fault s line c.without_return-line.result.now c.args.kept.now fault begun part c.in_err-step.ensures.turn))
 
 pub returns-clause-heard : goal.returns-clause-heard
 returns-clause-heard g c line begun e =
     let s : Course = course c.args.plan.now (papers_in c.args.papers.now) c.args.settings.now.side_limit c.args.fleet.now c.args.journal.now c.step.new.fleet c.step.new.journal g.T.Station.tells (g.T.Station.clock c.args.station.now) (g.T.Station.clock c.step.new.station) in
     let ten : 10 ≡ c.args.byte = sym c.if-byte-ne10.false in
-    let part : c.trimmed-line.result.now ≡ without_cr (kept_of line) = c.trimmed-line.ensures ∙ ap without_cr (c.as_slice.ensures ∙ e) in
+    let part : c.without_return-line.result.now ≡ without_cr (kept_of line) = c.without_return-line.ensures ∙ ap without_cr (c.as_slice.ensures ∙ e) in
     subst (λ (k : List ℕ). Hears s line (c.args.byte ∷ []) k (Ok (record {}))) (sym c.new.ensures)
-    (subst (λ (b : ℕ). Hears s line (b ∷ []) [] (Ok (record {}))) ten (line_served s line c.trimmed-line.result.now c.in_ok-step.field-0 begun part c.in_ok-step.ensures.turn))
+    (subst (λ (b : ℕ). Hears s line (b ∷ []) [] (Ok (record {}))) ten (line_served s line c.without_return-line.result.now c.in_ok-step.field-0 begun part c.in_ok-step.ensures.turn))

@@ -3,7 +3,7 @@ use Rattle.std.proofs.lemmas.Result.{err_from_is_err_and, IfOk-from_err}
 use Rattle.std.proofs.lemmas.Option.{MatchOption-at_some}
 use Rattle.fleet_base.specs.Bytes.{file_lines}
 use Rattle.map_text.specs.MapText.{IsMapText}
-use Rattle.map_text.proofs.FirstLine.{length-file_lines}
+use Rattle.fleet_base.proofs.FirstLine.{length-file_lines}
 use Rattle.map_text.proofs.WholeMap.{whole_map, whole_grid, rows_refused, fault_in_end, line_count}
 use Rattle.map_text.proofs.OneFault.{given, one_map, no_fault}
 use Rattle.map_text.proofs.read.read_map.Goals as goal

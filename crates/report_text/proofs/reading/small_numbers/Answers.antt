@@ -1,6 +1,7 @@
 -- A line with a larger number is no line of small numbers, since a line has one reading.
 use Rattle.std.proofs.Common.{◌≤◌, ◌^◌, get_or, arith}
-use Rattle.report_text.proofs.Spelling.{spelled_small, not_small, too_large}
+use Rattle.fleet_base.proofs.Numbers.{too_large}
+use Rattle.report_text.proofs.Spelling.{spelled_small, not_small}
 use Rattle.report_text.proofs.reading.small_numbers.Goals as goal
 
 pub returns-in_err-numbers-clause-none : goal.returns-in_err-numbers-clause-none

@@ -2,7 +2,7 @@ use Rattle.std.proofs.Common.{arith, ap}
 use Rattle.std.specs.Prelude.{map}
 use Rattle.std.proofs.lemmas.Grind.{common_steps}
 use Rattle.switch_pairs.specs.Stops.{stop_of}
-use Rattle.switch_pairs.proofs.Ranges.{range_more}
+use Rattle.fleet_base.proofs.Ranges.{range_more}
 use Rattle.switch_pairs.proofs.stops.push_stops.Goals as goal
 
 pub loop-index-preserved : goal.loop-index-preserved

@@ -1,24 +1,15 @@
--- How the lines of a text follow from its first line and the text after it.
+-- How the lines of a file follow from its first line and the text after it.
 use Rattle.std.proofs.Common.{ℕ, suc, ◌≡◌, ◌≢◌, ◌+◌, ◌-◌, ◌<◌, ◌≤◌, Bool, true, false, List, [], ◌∷◌, ◌++◌, map, length, take, drop, cond, eqb, ltb, Some, None, add-one, refl, sym, ap, ◌∙◌, arith}
 use Rattle.std.proofs.lemmas.Bool.{eqb-true, ltb-true, ltb-false}
 use Rattle.std.proofs.lemmas.Option.{cond_some}
 use Rattle.std.proofs.lemmas.List.{take_all, take_rest, drop_all, length-map}
 use Rattle.std.specs.List.{position, position_or_len, before_first, after_first}
+use Rattle.fleet_base.proofs.Pieces.{pieces_some}
 use Rattle.fleet_base.specs.Bytes.{in_front, pieces_of, without_cr, without_empty_end, file_lines}
 
 -- whether a byte ends a line
 abbrev pub is_end : ℕ → Bool
 is_end b = eqb b 10
-
--- a text has a piece
-pub pieces_cons : (text : List ℕ) → (p : List ℕ) × (ps : List (List ℕ)) × (pieces_of text ≡ p ∷ ps)
-pieces_cons [] = ([], [], refl)
-pieces_cons (c ∷ cs) = go (eqb c 10) (pieces_of cs)
-  where
-    go : (b : Bool) (rest : List (List ℕ)) → (p : List ℕ) × (ps : List (List ℕ)) × (cond b ([] ∷ rest) (in_front c rest) ≡ p ∷ ps)
-    go true rest = ([], rest, refl)
-    go false [] = (c ∷ [], [], refl)
-    go false (p ∷ ps) = (c ∷ p, ps, refl)
 
 -- a piece before others is kept
 pub without_end-kept : (line : List ℕ) (pieces : List (List ℕ)) (p : List ℕ) (ps : List (List ℕ)) → pieces ≡ p ∷ ps → without_empty_end (line ∷ pieces) ≡ line ∷ without_empty_end pieces
@@ -70,7 +61,7 @@ first_piece c (d ∷ ds) = by_end (first_piece d ds) (eqb c 10) refl
         → (b : Bool) → eqb c 10 ≡ b → without_empty_end (pieces_of (c ∷ d ∷ ds)) ≡ before_first is_end (c ∷ d ∷ ds) ∷ without_empty_end (pieces_of (after_first is_end (c ∷ d ∷ ds)))
     by_end rest true e =
         ap (λ b. without_empty_end (cond b ([] ∷ pieces_of (d ∷ ds)) (in_front c (pieces_of (d ∷ ds))))) e
-        ∙ without_end-kept [] _ _ _ (pieces_cons (d ∷ ds)).2
+        ∙ without_end-kept [] _ _ _ (pieces_some (d ∷ ds)).2
         ∙ sym (same_parts _ _ _ _ (before_first-ended c (d ∷ ds) e) (after_first-ended c (d ∷ ds) e))
     by_end rest false e =
         ap (λ b. without_empty_end (cond b ([] ∷ pieces_of (d ∷ ds)) (in_front c (pieces_of (d ∷ ds))))) e
@@ -81,22 +72,6 @@ first_piece c (d ∷ ds) = by_end (first_piece d ds) (eqb c 10) refl
 pub file_lines-cons : (text : List ℕ) → 0 < length text → file_lines text ≡ without_cr (before_first is_end text) ∷ file_lines (after_first is_end text)
 file_lines-cons [] h = absurd (omega arith)
 file_lines-cons (c ∷ cs) h = ap (λ pieces. map without_cr pieces) (first_piece c cs)
-
--- a CR at the end is dropped
-pub without_cr-push : (front : List ℕ) → without_cr (front ++ 13 ∷ []) ≡ front
-without_cr-push [] = refl
-without_cr-push (c ∷ []) = refl
-without_cr-push (c ∷ d ∷ cs) = ap (λ rest. c ∷ rest) (without_cr-push (d ∷ cs))
-
--- a line without one is kept
-pub without_cr-none : (line : List ℕ) → ((front : List ℕ) → line ≢ front ++ 13 ∷ []) → without_cr line ≡ line
-without_cr-none [] none = refl
-without_cr-none (c ∷ []) none = by_cr (eqb c 13) refl
-  where
-    by_cr : (b : Bool) → eqb c 13 ≡ b → without_cr (c ∷ []) ≡ c ∷ []
-    by_cr true e = absurd (none [] (ap (λ x. x ∷ []) (eqb-true c 13 e)))
-    by_cr false e = rw e refl
-without_cr-none (c ∷ d ∷ cs) none = ap (λ rest. c ∷ rest) (without_cr-none (d ∷ cs) (λ front e. none (c ∷ front) (ap (λ rest. c ∷ rest) e)))
 
 -- the lines of a text whose first LF stands at place i
 pub file_lines-ended : (text : List ℕ) (i : ℕ) (line : List ℕ) → position is_end text ≡ Some i → line ≡ without_cr (take i text)
@@ -139,7 +114,7 @@ length-file_lines text = omega (arith, length-map (without_empty_end (pieces_of 
       where
         by_end : length (without_empty_end (pieces_of (d ∷ ds))) ≤ length (d ∷ ds) → (b : Bool) → eqb c 10 ≡ b → length (without_empty_end (pieces_of (c ∷ d ∷ ds))) ≤ length (c ∷ d ∷ ds)
         by_end rest true e =
-            let is = ap (λ b. without_empty_end (cond b ([] ∷ pieces_of (d ∷ ds)) (in_front c (pieces_of (d ∷ ds))))) e ∙ without_end-kept [] _ _ _ (pieces_cons (d ∷ ds)).2 in
+            let is = ap (λ b. without_empty_end (cond b ([] ∷ pieces_of (d ∷ ds)) (in_front c (pieces_of (d ∷ ds))))) e ∙ without_end-kept [] _ _ _ (pieces_some (d ∷ ds)).2 in
             omega (arith, ap length is, rest)
         by_end rest false e =
             let is = ap (λ b. without_empty_end (cond b ([] ∷ pieces_of (d ∷ ds)) (in_front c (pieces_of (d ∷ ds))))) e ∙ without_end-in_front c (pieces_of (d ∷ ds)) _ _ (first_piece d ds) in

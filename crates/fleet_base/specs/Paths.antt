@@ -2,16 +2,12 @@
 use Rattle.std.specs.Prelude.{ℕ, ◌+◌, ◌-◌, max, List, [], ◌∷◌, slice_get, sum_by, Bool, ◌==◌, ◌&&◌, nat_lt, nat_le, Option, Some, None, option_and_then, if◌then◌else◌}
 use Rattle.std.specs.Option.{option_map_or, option_map}
 use Rattle.fleet_base.specs.declared.geometry.Visit.{Visit}
+use Rattle.fleet_base.specs.declared.order.Edge.{Edge}
 use Rattle.fleet_base.specs.declared.order.Side.{Side}
 use Rattle.fleet_base.specs.declared.order.PairId.{PairId}
 use Rattle.fleet_base.specs.Lists.{range}
 use Rattle.fleet_base.specs.Order.{Graph, last_in, next_visit, first_visit, second_visit}
 use Rattle.fleet_base.specs.State.{FleetState, arrived_count, released_count, arrival_tick_of, release_tick_of, duration_of}
-
--- from a first robot's following visit to the other robot's visit of the pair
-pub record Edge : Type 0 where
-  pub tail : Visit
-  pub head : Visit
 
 -- the edge of a pair, if it is there and has a side
 abbrev pub edge_in : Graph → (ℕ → Option Side) → ℕ → Option Edge

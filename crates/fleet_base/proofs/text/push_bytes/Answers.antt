@@ -1,6 +1,6 @@
 use Rattle.std.proofs.lemmas.Result.{err_from_is_err_and}
-use Rattle.report_text.proofs.Appending.{bytes_left}
-use Rattle.report_text.proofs.writing.push_bytes.Goals as goal
+use Rattle.fleet_base.proofs.Appending.{bytes_left}
+use Rattle.fleet_base.proofs.text.push_bytes.Goals as goal
 
 pub returns-in_err-push-clause-err : goal.returns-in_err-push-clause-err
 returns-in_err-push-clause-err c =

@@ -3,8 +3,8 @@ use Rattle.std.proofs.lemmas.Bool.Decides.{Decides-eqb}
 use Rattle.std.proofs.lemmas.Option.{MatchOption-at_some, MatchOption-at_none}
 use Rattle.std.proofs.lemmas.Slice.Eq.{strip_suffix_is}
 use Rattle.fleet_base.specs.Bytes.{without_cr}
-use Rattle.fleet_serve.proofs.Texts.{without_cr-push, without_cr-none}
-use Rattle.fleet_serve.proofs.lines.trimmed.Goals as goal
+use Rattle.fleet_base.proofs.Pieces.{without_cr-push, without_cr-none}
+use Rattle.fleet_base.proofs.text.without_return.Goals as goal
 
 pub returns-in-Some : goal.returns-in-Some
 returns-in-Some c =
