@@ -14,7 +14,7 @@ use Rattle.fleet_base.specs.declared.report.Report.{Report}
 use Rattle.fleet_base.specs.declared.report.Report.TheVariants.{Arrive, Delay}
 use Rattle.fleet_base.specs.declared.report.Why.TheVariants.{Robot, Index, Arrived, Tick, Size}
 use Rattle.fleet_base.specs.Lists.{row_of}
-use Rattle.fleet_base.specs.Order.{Graph, IsVisit, HasEdge, order_of, second_visit}
+use Rattle.fleet_base.specs.Order.{Graph, IsVisit, HasEdge, order_of, second_visit, other_side}
 use Rattle.fleet_base.specs.Open.{is_open, is_settled}
 use Rattle.fleet_base.specs.State.{FleetState, arrived, released, released_count, delay_of}
 use Rattle.fleet_base.specs.Rules.{IsFleetState}
@@ -22,7 +22,7 @@ use Rattle.fleet_base.proofs.Members.{head_in, tail_in}
 use Rattle.fleet_base.proofs.Settling.{IsHeard, settles}
 use Rattle.fleet_core.specs.declared.judging.Judged.TheVariants.{Accept, Known, Refused}
 use Rattle.fleet_core.specs.Judgement.{judgement_of, is_bad_tick}
-use Rattle.fleet_core.specs.Step.{Step, IsChoice, heard_of, turned, other_side}
+use Rattle.fleet_core.specs.Step.{Step, IsChoice, heard_of, turned}
 use Rattle.fleet_core.proofs.Arriving.{passed, neither, arrival_keeps_rules}
 
 -- what an accepted delay says

@@ -3,13 +3,13 @@ ghost use Rattle.std.specs.Prelude.{ℕ, ◌≡◌, ◌<◌, List, All, length};
 ghost use Rattle.fleet_base.specs.Order.{Graph};
 ghost use Rattle.fleet_base.specs.State.{FleetState};
 ghost use Rattle.fleet_base.specs.Rules.{IsFleetState};
-ghost use Rattle.fleet_core.specs.Step.{Step, other_side, turned};
+ghost use Rattle.fleet_core.specs.Step.{Step, turned};
 ghost use Rattle.fleet_core.specs.Preparing.{IsPrepared};
 ghost use Rattle.fleet_core.specs.Pushing.{HaveRoom, pushed};
 
 use crate::Entry;
 use crate::hearing::hear;
-use fleet_base::{Fleet, PairId, Side, Visit};
+use fleet_base::{Fleet, PairId, Visit};
 
 /// Makes the step of an entry that was prepared for this fleet: its report, its switches and its releases. It takes no
 /// memory.
@@ -29,17 +29,8 @@ pub(crate) fn turn(fleet: &mut Fleet, switched: &[PairId])
     ensures { fleet.new ≡ record fleet.old { sides = turned fleet.old.sides switched.now } }
 {
     for q in switched {
-        let side = opposite(fleet.side(*q));
+        let side = fleet.side(*q).other();
         fleet.set_side(*q, side);
-    }
-}
-
-fn opposite(side: Side) -> Side
-    ensures { result ≡ other_side side }
-{
-    match side {
-        Side::Lower => Side::Higher,
-        Side::Higher => Side::Lower,
     }
 }
 

@@ -8,7 +8,6 @@ mod first;
 mod hearing;
 mod judging;
 pub mod laws;
-mod opening;
 mod preparing;
 
 pub use advancing::advance;
@@ -17,5 +16,4 @@ pub use entry::{ChoiceWhy, Entry, PrepareError};
 pub use first::first_state;
 pub use hearing::heard;
 pub use judging::{Judged, judge};
-pub use opening::is_open;
 pub use preparing::prepare;

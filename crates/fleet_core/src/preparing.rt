@@ -12,9 +12,9 @@ ghost use Rattle.fleet_core.specs.Preparing.{PrepareIs, IsFirstClosed};
 ghost use Rattle.fleet_core.specs.Switching.{SwitchIs, OrderIs};
 
 use crate::applying::turn;
-use crate::{ChoiceWhy, Entry, PrepareError, heard, is_open};
+use crate::{ChoiceWhy, Entry, PrepareError, heard};
 use fleet_base::{Fleet, Items, Memory, PairId, PairList, Report};
-use plan_graph::{Oriented, PlanGraph, RankRoom, Ranked, rank};
+use plan_graph::{Oriented, PlanGraph, RankRoom, Ranked, is_open, rank};
 use release_rule::{Out, kept_order_releases};
 use std::alloc::Global;
 

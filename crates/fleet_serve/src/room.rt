@@ -4,9 +4,8 @@ ghost use Rattle.fleet_base.specs.State.{IsFleetOf};
 ghost use Rattle.fleet_serve.specs.Room.{open_count, counted_length, HasRoom};
 
 use fleet_base::{Fleet, PairId, Report};
-use fleet_core::is_open;
 use fleet_journal::Journal;
-use plan_graph::PlanGraph;
+use plan_graph::{PlanGraph, is_open};
 
 /// The greatest number of a report.
 const LAST_COUNT: u64 = 1 << 62;

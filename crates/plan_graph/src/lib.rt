@@ -1,8 +1,9 @@
-//! The graph of a plan, views of it that give its pairs sides, and their ranking.
+//! The graph of a plan, which of its pairs are open, views of it that give its pairs sides, and their ranking.
 #![tactic(auto)]
 
 mod graph;
 pub mod laws;
+mod opening;
 mod ranking;
 #[cfg(test)]
 mod tests;
@@ -10,5 +11,6 @@ mod view;
 mod work;
 
 pub use graph::PlanGraph;
+pub use opening::is_open;
 pub use ranking::{RankRoom, Ranked, rank};
 pub use view::Oriented;

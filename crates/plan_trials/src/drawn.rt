@@ -8,9 +8,8 @@ use crate::reading::sound_plan;
 use crate::rounds::{read, slow_ticks};
 use crate::walks::{Dice, SQUARE, drawn_walks, text_of};
 use fleet_base::{Fleet, PairId, Report, Side, Visit};
-use fleet_core::is_open;
 use longest_path::Ticks;
-use plan_graph::{Oriented, PlanGraph};
+use plan_graph::{Oriented, PlanGraph, is_open};
 use std::alloc::Global;
 use std::test::Fail;
 

@@ -8,9 +8,9 @@ ghost use Rattle.longest_path.specs.Ticks.{IsKeptFor};
 ghost use Rattle.longest_path.specs.Closed.{AgreesOnClosed};
 
 use fleet_base::{Fleet, PairId, PairList, Report, Side, SoundPlan};
-use fleet_core::{Judged, apply, first_state, is_open, judge, prepare};
+use fleet_core::{Judged, apply, first_state, judge, prepare};
 use longest_path::{Ticks, earliest};
-use plan_graph::{Oriented, PlanGraph};
+use plan_graph::{Oriented, PlanGraph, is_open};
 use std::alloc::Global;
 use std::test::Fail;
 use switch_pairs::pairs;

@@ -10,7 +10,7 @@ loop-n-preserved c =
     let path = c.args.path.now in
     let n = c.loop-n.n in
     let front : c.if-n-gt0.out ≡ c.args.out.now ++ opened (take n path) = elim c.if-n-gt0.branch [
-      | then-n-gt0+in_ok-push_bytes w ↦ w.out-is ∙ w.in_ok-push_bytes.ensures ∙ ap (λ xs. xs ++ 45 ∷ 62 ∷ []) c.loop-n.invariant ∙ append_assoc c.args.out.now (path_text (take n path)) (45 ∷ 62 ∷ []) ∙ ap (λ xs. c.args.out.now ++ xs) (opened_behind path n w.if-n-gt0.true c.loop-n-test.true)
+      | then-n-gt0+in_ok-push_bytes w ↦ w.out-is ∙ w.in_ok-push_bytes.ensures.ok ∙ ap (λ xs. xs ++ 45 ∷ 62 ∷ []) c.loop-n.invariant ∙ append_assoc c.args.out.now (path_text (take n path)) (45 ∷ 62 ∷ []) ∙ ap (λ xs. c.args.out.now ++ xs) (opened_behind path n w.if-n-gt0.true c.loop-n-test.true)
       | else-n-gt0 w ↦ w.out-is ∙ c.loop-n.invariant ∙ ap (λ xs. c.args.out.now ++ xs) (opened_first path n w.if-n-gt0.false)
     ] in
     let cell = get_or path n (record { row = 0; col = 0 }) in

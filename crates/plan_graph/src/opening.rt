@@ -4,8 +4,8 @@ ghost use Rattle.fleet_base.specs.Order.{IsVisit};
 ghost use Rattle.fleet_base.specs.Open.{is_open, is_settled};
 ghost use Rattle.fleet_base.specs.State.{IsFleetOf};
 
+use crate::PlanGraph;
 use fleet_base::{Fleet, PairId, Visit};
-use plan_graph::PlanGraph;
 
 /// Whether a pair may still change its side: neither of its visits is released, and neither is its robot's last.
 pub fn is_open(graph: &PlanGraph, fleet: &Fleet, q: PairId) -> bool

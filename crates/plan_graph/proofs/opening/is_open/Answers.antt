@@ -1,4 +1,4 @@
-use Rattle.fleet_core.proofs.opening.is_open.Goals as goal
+use Rattle.plan_graph.proofs.opening.is_open.Goals as goal
 
 pub is_settled-requires-clause-there : goal.is_settled-requires-clause-there
 is_settled-requires-clause-there c = c.requires.fleet.graph.lower _ _ c.pair-pair.ensures
