@@ -1,4 +1,3 @@
 pub mod CertText
 pub mod CertFaults
 pub mod Reading
-pub mod Writing

@@ -1,4 +1,3 @@
 pub mod AnswerLine
 pub mod Reading
 pub mod ReportLine
-pub mod Writing
