@@ -1,5 +1,5 @@
 -- Open pairs: neither visit is settled.
-use Rattle.std.proofs.Common.{ℕ, ◌≡◌, ◌≢◌, ◌+◌, ◌≤◌, Some, None, Option, true, false, Bool, refl, sym, ap, ◌∙◌, arith, ltb, eqb}
+use Rattle.std.proofs.Common.{ℕ, ◌≡◌, ◌≢◌, Some, None, Option, true, false, Bool, refl, sym, ap, ◌∙◌, arith, ltb, eqb}
 use Rattle.std.specs.Prelude.{slice_get, ◌&&◌, ◌||◌, not}
 use Rattle.std.specs.Option.{option_map_or}
 use Rattle.std.proofs.lemmas.Bool.{eq-eqb, lt-ltb}

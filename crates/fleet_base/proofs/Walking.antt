@@ -1,5 +1,5 @@
 -- The edge of a pair as it is computed, and where a walk can go along its robot.
-use Rattle.std.proofs.Common.{ℕ, ◌≡◌, ◌+◌, ◌-◌, ◌≤◌, Some, None, Option, true, Bool, refl, sym, ap, ◌∙◌, arith, leb, eqb}
+use Rattle.std.proofs.Common.{ℕ, ◌≡◌, ◌+◌, ◌-◌, ◌≤◌, Some, None, Option, true, refl, sym, ap, ◌∙◌, arith, leb, eqb}
 use Rattle.std.specs.Prelude.{slice_get, option_and_then, sum_by, ◌&&◌}
 use Rattle.std.specs.Option.{option_map}
 use Rattle.std.specs.List.{range_with_len}
