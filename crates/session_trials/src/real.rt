@@ -1,6 +1,4 @@
 // The program over real files in a folder of its own. Its answers go to standard output.
-use crate::outside::{end_of, joined, play, side_a, station_of};
-use crate::papers::{CROSSING_MAP, CROSSING_PLAN, WHOLE_PLAN};
 use station_api::MemSource;
 use station_real::{RealShelf, RealStation};
 use std::alloc::Global;
@@ -9,6 +7,9 @@ use std::process::Abort;
 use std::rt::Files;
 use std::test::Fail;
 use std::{env, fs, process};
+use trial_base::{
+    CROSSING_MAP, CROSSING_PLAN, WHOLE_PLAN, end_of, joined, play, side_a, station_of,
+};
 
 /// A folder with a map `M` and a plan `P`.
 fn make_folder(rt: HostRuntime) -> Result<String, Fail> {

@@ -1,10 +1,12 @@
 // Journals that a session refuses: each has its line, and both sides stay as they are.
-use crate::outside::{next_session, sent_behind, session, side_a, side_b, station_of};
-use crate::papers::{CROSSING, CROSSING_MAP, CROSSING_PLAN, Texts};
 use station_api::{DiskSide, MemStation, Station};
 use std::alloc::Global;
 use std::process::Abort;
 use std::test::Fail;
+use trial_base::{
+    CROSSING, CROSSING_MAP, CROSSING_PLAN, Texts, next_session, sent_behind, session, side_a,
+    side_b, station_of,
+};
 
 /// Side A of a new journal of the crossing.
 fn created(alloc: Global) -> Result<Vec<u8>, Fail> {

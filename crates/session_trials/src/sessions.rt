@@ -1,9 +1,10 @@
 // Sessions that end well, one after another over one journal, and what they keep in it.
-use crate::outside::{joined, next_session, side_a, side_b, station_of};
-use crate::papers::{CROSSING, Script, WHOLE_PLAN, WITH_DELAYS};
 use std::alloc::Global;
 use std::process::Abort;
 use std::test::Fail;
+use trial_base::{
+    CROSSING, Script, WHOLE_PLAN, WITH_DELAYS, joined, next_session, side_a, side_b, station_of,
+};
 
 /// A session that hears the first reports of a script, one that hears the others, and one that hears none.
 fn assert_goes_on(

@@ -1,12 +1,13 @@
 // Answers that a stop cuts off: a torn piece has no line end and is no line, and the next session sends it whole.
-use crate::outside::{joined, next_session, play, sent_behind, station_of};
-use crate::papers::{CROSSING, Script, WHOLE_PLAN, WITH_DELAYS};
-use crate::reading::answers_in;
 use report_text::read_answer;
 use station_api::MemStation;
 use std::alloc::Global;
 use std::process::Abort;
 use std::test::Fail;
+use trial_base::{
+    CROSSING, Script, WHOLE_PLAN, WITH_DELAYS, answers_in, joined, next_session, play, sent_behind,
+    station_of,
+};
 
 /// The first session of a script hears so many reports, on a line that takes so many bytes at a time. It is stopped when all
 /// but so many pieces of its last answer are sent; this is then sent of that answer.

@@ -1,11 +1,10 @@
 // Robots beside the sessions of a life: they go on every whole line that any session has sent, and report what is true.
-use crate::papers::Texts;
-use crate::reading::answers_in;
 use fleet_base::{Cell, Visit};
 use report_text::Answer;
 use std::alloc::Global;
 use std::fmt::Write;
 use std::test::Fail;
+use trial_base::{Texts, answers_in};
 
 /// A plan, the cells in which its robots start, and their last visits.
 #[derive(Clone, Copy)]

@@ -3,8 +3,6 @@ ghost use Rattle.std.specs.Prelude.{◌≡◌, IfOk};
 ghost use Rattle.fleet_base.specs.Pairs.{pairs_of};
 ghost use Rattle.plan_check.specs.Faults.{HasRobots};
 
-use crate::outside::{sent_behind, session, side_a, station_of};
-use crate::papers::{CROSSING, CROSSING_MAP, CROSSING_PLAN};
 use crate::pieces::{at_once, byte_by_byte};
 use fleet_base::{Grid, PairTable, RawPlan, SoundPlan, Why};
 use fleet_recovery::recover;
@@ -17,6 +15,7 @@ use station_api::{MemStation, Source, Station};
 use std::alloc::Global;
 use std::test::Fail;
 use switch_pairs::pairs;
+use trial_base::{CROSSING, CROSSING_MAP, CROSSING_PLAN, sent_behind, session, side_a, station_of};
 
 /// More bytes than any side and any input here has.
 const LIMIT: u64 = 1 << 20;

@@ -1,10 +1,12 @@
 // The command `check` over files and a line in memory, and words that are no command.
-use crate::outside::{end_of, shelf_of, station_of};
-use crate::papers::{CORRIDOR_MAP, CORRIDOR_PLAN, CROSSING, CROSSING_MAP, CROSSING_PLAN, Texts};
 use station_api::{MemSource, MemStation};
 use std::alloc::Global;
 use std::fmt::Write;
 use std::test::Fail;
+use trial_base::{
+    CORRIDOR_MAP, CORRIDOR_PLAN, CROSSING, CROSSING_MAP, CROSSING_PLAN, Texts, end_of, shelf_of,
+    station_of,
+};
 
 const SQUARE_MAP: &[u8] = b"type octile\nheight 2\nwidth 2\nmap\n..\n..\n";
 

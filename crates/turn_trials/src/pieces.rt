@@ -1,9 +1,8 @@
 // Input that comes in pieces, and answers that go out in pieces.
-use crate::outside::{end_of, joined, sent_behind, shelf_of, side_a, station_of};
-use crate::papers::{CROSSING, WHOLE_PLAN};
 use station_api::{Failed, MemSource, Source};
 use std::alloc::Global;
 use std::test::Fail;
+use trial_base::{CROSSING, WHOLE_PLAN, end_of, joined, sent_behind, shelf_of, side_a, station_of};
 
 /// Bytes of which each read takes at most one.
 #[derive(Drop)]

@@ -1,11 +1,12 @@
 // Stops: what they leave of a report, and what the next session makes of it.
 use crate::knowing::{LEFT, assert_ends, assert_keeps};
-use crate::outside::{next_session, play, sent_behind, side_a, station_of};
-use crate::papers::{CROSSING, Script, WHOLE_PLAN, WITH_DELAYS};
 use station_api::MemStation;
 use std::alloc::Global;
 use std::process::Abort;
 use std::test::Fail;
+use trial_base::{
+    CROSSING, Script, WHOLE_PLAN, WITH_DELAYS, next_session, play, sent_behind, side_a, station_of,
+};
 
 /// A stop in the turn of a report: how many of the turn's five calls are made (the frame's body is written and synced, its
 /// gate is written and synced, and the answer is sent); how many of the bytes that are not synced are kept, and what the

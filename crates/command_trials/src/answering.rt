@@ -1,8 +1,10 @@
 // A first session: how each line is answered.
-use crate::outside::{joined, session, station_of};
-use crate::papers::{CORRIDOR, CROSSING, CROSSING_MAP, Script, Texts, WHOLE_PLAN, WITH_DELAYS};
 use std::alloc::Global;
 use std::test::Fail;
+use trial_base::{
+    CORRIDOR, CROSSING, CROSSING_MAP, Script, Texts, WHOLE_PLAN, WITH_DELAYS, joined, session,
+    station_of,
+};
 
 /// How a first session ends that hears these reports, and what it sends.
 fn run_of(alloc: Global, texts: Texts<'_>, reports: &[u8]) -> Result<(u8, Vec<u8>), Fail> {

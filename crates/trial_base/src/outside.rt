@@ -6,7 +6,7 @@ use std::alloc::Global;
 use std::test::Fail;
 
 /// Words as the program takes them.
-pub fn word_list(alloc: Global, words: &[&str]) -> Result<Vec<String>, Fail> {
+fn word_list(alloc: Global, words: &[&str]) -> Result<Vec<String>, Fail> {
     let mut list = Vec::new(alloc);
     for word in words {
         list.push(String::from_str(alloc, word)?)?;

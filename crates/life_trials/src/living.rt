@@ -1,8 +1,5 @@
 // Lives: sessions over one journal, each ended or stopped at any moment, beside robots that go on all that was ever sent.
 use crate::dice::Dice;
-use crate::outside::{sent_behind, session, station_of};
-use crate::papers::{CORRIDOR, CROSSING, ROW};
-use crate::reading::{answers_in, kept_by};
 use crate::world::{Trial, World};
 use fleet_base::{Cell, Why};
 use report_text::Answer;
@@ -10,6 +7,7 @@ use station_api::MemStation;
 use std::alloc::Global;
 use std::process::Abort;
 use std::test::Fail;
+use trial_base::{CORRIDOR, CROSSING, ROW, answers_in, kept_by, sent_behind, session, station_of};
 
 /// How many sessions a life has before the last one, and how many events a session has at most.
 const SESSIONS: u32 = 5;

@@ -1,11 +1,13 @@
 // Calls of the outside that fail, each once: the status, what was said before, and what the next session knows.
 use crate::knowing::{LEFT, assert_ends, assert_keeps};
-use crate::outside::{end_of, joined, play, sent_behind, shelf_of, station_of};
-use crate::papers::{CROSSING, Script, WHOLE_PLAN, WITH_DELAYS};
 use station_api::{MemSource, MemStation};
 use std::alloc::Global;
 use std::process::Abort;
 use std::test::Fail;
+use trial_base::{
+    CROSSING, Script, WHOLE_PLAN, WITH_DELAYS, end_of, joined, play, sent_behind, shelf_of,
+    station_of,
+};
 
 const RUN: &[&str] = &["run", "M", "P", "J"];
 
@@ -97,7 +99,7 @@ fn each_call_of_the_shelf_may_fail(rt: HostRuntime) -> Result<(), Fail> {
     Ok(())
 }
 
-/// The reports of a script, each padded by an empty line to the 512 bytes of a read.
+/// The reports of a script, each with a line of `x` behind it that fills up the 512 bytes of a read.
 fn padded(alloc: Global, script: &Script) -> Result<Vec<u8>, Fail> {
     let mut whole = Vec::new(alloc);
     for report in script.reports {

@@ -1,13 +1,11 @@
 // What the next session knows of the reports of one that was stopped, or broke off.
-use crate::outside::{joined, next_session};
-use crate::papers::{CROSSING, Script};
-use crate::reading::{answers_in, kept_by};
 use fleet_base::Why;
 use report_text::Answer;
 use station_api::MemStation;
 use std::alloc::Global;
 use std::process::Abort;
 use std::test::Fail;
+use trial_base::{CROSSING, Script, answers_in, joined, kept_by, next_session};
 
 /// What may be left of bytes that are not synced: how many are kept, and what the others hold.
 pub const LEFT: [(u64, u8); 9] = [
