@@ -40,35 +40,34 @@ error_of (journal_error.Full n) = recover_error.Journal (journal_error.Full n)
 error_of journal_error.Station = recover_error.Journal journal_error.Station
 error_of journal_error.Memory = recover_error.Memory
 
+-- under which condition each refusal comes
+pub record Conditions : Type 1 where
+  pub not_journal : Type 0
+  pub bad_record : ℕ → Type 0
+  pub full : ℕ → Type 0
+  pub other_plan : ℕ → Type 0
+
+-- a refusal comes only under its condition, and want of memory is no error of the journal
+abbrev pub Refuses : Conditions → RecoverError → Type 0
+Refuses when (recover_error.Journal journal_error.NotJournal) = when.not_journal
+Refuses when (recover_error.Journal (journal_error.BadRecord n)) = when.bad_record n
+Refuses when (recover_error.Journal (journal_error.Full n)) = when.full n
+Refuses when (recover_error.Journal journal_error.Station) = Unit {0}
+Refuses when (recover_error.Journal journal_error.Memory) = ⊥
+Refuses when (recover_error.OtherPlan at) = when.other_plan at
+Refuses when recover_error.Memory = Unit {0}
+
 -- the refusals of looking: a refusal comes only where the sides mean it
 abbrev pub LookRefuses : (Image → Type 0) → RecoverError → Type 0
-LookRefuses mean (recover_error.Journal journal_error.NotJournal) = mean NotJournal
-LookRefuses mean (recover_error.Journal (journal_error.BadRecord n)) = mean (BadRecord n)
-LookRefuses mean (recover_error.Journal (journal_error.Full n)) = ⊥
-LookRefuses mean (recover_error.Journal journal_error.Station) = Unit {0}
-LookRefuses mean (recover_error.Journal journal_error.Memory) = ⊥
-LookRefuses mean (recover_error.OtherPlan at) = mean (OtherPlan at)
-LookRefuses mean recover_error.Memory = Unit {0}
+LookRefuses mean = Refuses (record { not_journal = mean NotJournal; bad_record = λ n. mean (BadRecord n); full = λ n. ⊥; other_plan = λ at. mean (OtherPlan at) })
 
 -- the refusals of making a journal: a side is too small only where its limit is below what is needed
 abbrev pub MakeRefuses : ℕ → ℕ → RecoverError → Type 0
-MakeRefuses needed limit (recover_error.Journal journal_error.NotJournal) = ⊥
-MakeRefuses needed limit (recover_error.Journal (journal_error.BadRecord n)) = ⊥
-MakeRefuses needed limit (recover_error.Journal (journal_error.Full n)) = (n ≡ needed) × (limit < needed)
-MakeRefuses needed limit (recover_error.Journal journal_error.Station) = Unit {0}
-MakeRefuses needed limit (recover_error.Journal journal_error.Memory) = ⊥
-MakeRefuses needed limit (recover_error.OtherPlan at) = ⊥
-MakeRefuses needed limit recover_error.Memory = Unit {0}
+MakeRefuses needed limit = Refuses (record { not_journal = ⊥; bad_record = λ n. ⊥; full = λ n. (n ≡ needed) × (limit < needed); other_plan = λ at. ⊥ })
 
 -- the refusals of opening: these, and that a side is too small for the header of a new journal
 abbrev pub RecoverRefuses : (Image → Type 0) → ℕ → ℕ → RecoverError → Type 0
-RecoverRefuses mean needed limit (recover_error.Journal journal_error.NotJournal) = mean NotJournal
-RecoverRefuses mean needed limit (recover_error.Journal (journal_error.BadRecord n)) = mean (BadRecord n)
-RecoverRefuses mean needed limit (recover_error.Journal (journal_error.Full n)) = (n ≡ needed) × (limit < needed) × mean Blank
-RecoverRefuses mean needed limit (recover_error.Journal journal_error.Station) = Unit {0}
-RecoverRefuses mean needed limit (recover_error.Journal journal_error.Memory) = ⊥
-RecoverRefuses mean needed limit (recover_error.OtherPlan at) = mean (OtherPlan at)
-RecoverRefuses mean needed limit recover_error.Memory = Unit {0}
+RecoverRefuses mean needed limit = Refuses (record { not_journal = mean NotJournal; bad_record = λ n. mean (BadRecord n); full = λ n. (n ≡ needed) × (limit < needed) × mean Blank; other_plan = λ at. mean (OtherPlan at) })
 
 -- this holds after every refusal but a fault of the station
 abbrev pub UnlessStation : Type 0 → RecoverError → Type 0

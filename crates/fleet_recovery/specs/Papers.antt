@@ -1,7 +1,7 @@
 -- The bytes of a map and of a plan.
 use Rattle.std.specs.Prelude.{◌≡◌, ◌≢◌, ◌⊎◌, ℕ, ◌≤◌, List, ◌∷◌, ◌++◌, length, take, None}
 use Rattle.journal_frame.specs.declared.header.HeaderParts.{HeaderParts}
-use Rattle.fleet_recovery.specs.declared.papers.Texts.{Texts}
+use Rattle.fleet_recovery.specs.declared.papers.Papers.{Papers as HandedPapers}
 
 -- the bytes of the map and of the plan
 pub record Papers : Type 0 where
@@ -28,8 +28,8 @@ pub record AgreeFor (xs ys : List ℕ) (n : ℕ) : Type 0 where
   pub longest : (m : ℕ) → m ≤ length xs → m ≤ length ys → take m xs ≡ take m ys → m ≤ n
 
 -- the papers that were handed in
-abbrev pub papers_in : Texts → Papers
-papers_in texts = record { map = texts.map.now; plan = texts.plan.now }
+abbrev pub papers_in : HandedPapers → Papers
+papers_in handed = record { map = handed.map.now; plan = handed.plan.now }
 
 -- the header of a new journal
 abbrev pub new_header : List ℕ → List ℕ → HeaderParts

@@ -10,31 +10,18 @@ use Rattle.journal_frame.specs.Entries.{IsEntry}
 use Rattle.fleet_journal.specs.declared.journal.OtherSide.{OtherSide}
 use Rattle.fleet_journal.specs.Standing.{Standing}
 use Rattle.fleet_journal.specs.Journal.{HasRead, Stands}
-use Rattle.fleet_journal.specs.declared.error.JournalError.TheVariants as journal_error
 use Rattle.fleet_recovery.specs.declared.error.RecoverError.{RecoverError}
-use Rattle.fleet_recovery.specs.declared.error.RecoverError.TheVariants as recover_error
 use Rattle.fleet_recovery.specs.Entries.{Enters, Leads}
 use Rattle.fleet_recovery.specs.Image.{IsStuck}
+use Rattle.fleet_recovery.specs.Answers.{Refuses}
 
--- the refusals of an entry: a bad record comes with its number and only where this holds
-abbrev pub EnterRefuses : ℕ → Type 0 → RecoverError → Type 0
-EnterRefuses number bad (recover_error.Journal journal_error.NotJournal) = ⊥
-EnterRefuses number bad (recover_error.Journal (journal_error.BadRecord n)) = (n ≡ number) × bad
-EnterRefuses number bad (recover_error.Journal (journal_error.Full n)) = ⊥
-EnterRefuses number bad (recover_error.Journal journal_error.Station) = Unit {0}
-EnterRefuses number bad (recover_error.Journal journal_error.Memory) = ⊥
-EnterRefuses number bad (recover_error.OtherPlan at) = ⊥
-EnterRefuses number bad recover_error.Memory = Unit {0}
-
--- the same for any number
+-- the refusals of reading entries: a bad record only where this holds of its number
 abbrev pub ReplayRefuses : (ℕ → Type 0) → RecoverError → Type 0
-ReplayRefuses bad (recover_error.Journal journal_error.NotJournal) = ⊥
-ReplayRefuses bad (recover_error.Journal (journal_error.BadRecord n)) = bad n
-ReplayRefuses bad (recover_error.Journal (journal_error.Full n)) = ⊥
-ReplayRefuses bad (recover_error.Journal journal_error.Station) = Unit {0}
-ReplayRefuses bad (recover_error.Journal journal_error.Memory) = ⊥
-ReplayRefuses bad (recover_error.OtherPlan at) = ⊥
-ReplayRefuses bad recover_error.Memory = Unit {0}
+ReplayRefuses bad = Refuses (record { not_journal = ⊥; bad_record = bad; full = λ n. ⊥; other_plan = λ at. ⊥ })
+
+-- the refusals of reading the entry of this number
+abbrev pub EnterRefuses : ℕ → Type 0 → RecoverError → Type 0
+EnterRefuses number bad = ReplayRefuses (λ n. (n ≡ number) × bad)
 
 -- whatever the payload of this entry is, it leads from a state to another
 abbrev pub EntersBy : Graph → FleetState → Report → List PairId → FleetState → Type 0

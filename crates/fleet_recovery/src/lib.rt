@@ -11,3 +11,4 @@ mod replay;
 pub use error::RecoverError;
 pub use looking::{Looked, look};
 pub use opening::recover;
+pub use papers::Papers;

@@ -12,7 +12,7 @@ ghost use Rattle.journal_frame.specs.declared.header.HeaderParts.{HeaderParts as
 ghost use Rattle.fleet_journal.specs.Journal.{HasRead};
 
 use crate::RecoverError;
-use crate::papers::{Texts, other_papers};
+use crate::papers::{Papers, other_papers};
 use crate::replay::replay;
 use fleet_base::{Fleet, PairTable, SoundPlan};
 use fleet_core::first_state;
@@ -64,7 +64,7 @@ pub fn look<T: Station>(
             header,
             other,
         } => {
-            if let Some(at) = other_papers(&header, &Texts { map, plan: text }) {
+            if let Some(at) = other_papers(&header, &Papers { map, plan: text }) {
                 return Err(RecoverError::OtherPlan { at });
             }
             let graph = PlanGraph::new(alloc, plan, pairs)?;

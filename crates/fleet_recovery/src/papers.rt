@@ -1,17 +1,18 @@
-// Whether a journal is that of a map and a plan.
+// The map and the plan of a journal, and whether it is that of others.
 ghost use Rattle.std.specs.Prelude.{◌≡◌, ◌<◌, length, slice_index, IfSome, IfNone};
 ghost use Rattle.fleet_recovery.specs.Papers.{paper_text, papers_of, papers_in, Differ, AgreeFor};
 
 use journal_frame::HeaderParts;
 
-/// The bytes of a map and of a plan, as one text: the map, one byte 0, the plan.
-#[derive(Drop)]
-pub struct Texts<'t> {
-    pub map: &'t [u8],
-    pub plan: &'t [u8],
+/// The bytes of a map and of a plan, which the header of a journal names.
+#[derive(Clone, Copy, Debug)]
+pub struct Papers<'p> {
+    pub map: &'p [u8],
+    pub plan: &'p [u8],
 }
 
-impl Texts<'_> {
+// As one text: the map, one byte 0, the plan.
+impl Papers<'_> {
     fn len(&self) -> usize
         ensures { result ≡ length (paper_text (papers_in self.now)) }
     {
@@ -35,7 +36,7 @@ impl Texts<'_> {
 }
 
 /// How long two texts are the same.
-fn agreement(one: &Texts<'_>, other: &Texts<'_>) -> usize
+fn agreement(one: &Papers<'_>, other: &Papers<'_>) -> usize
     ensures { AgreeFor (paper_text (papers_in one.now)) (paper_text (papers_in other.now)) result }
 {
     let end = one.len().min(other.len());
@@ -48,17 +49,17 @@ fn agreement(one: &Texts<'_>, other: &Texts<'_>) -> usize
 }
 
 /// How long the map and the plan of a header are the same as these, where one of them differs.
-pub fn other_papers(header: &HeaderParts, texts: &Texts<'_>) -> Option<u64>
-    ensures same { IfNone result (papers_of header.now ≡ papers_in texts.now) }
-    ensures differ { IfSome result (λ at. Differ (papers_of header.now) (papers_in texts.now)) }
-    ensures at { IfSome result (AgreeFor (paper_text (papers_of header.now)) (paper_text (papers_in texts.now))) }
+pub fn other_papers(header: &HeaderParts, papers: &Papers<'_>) -> Option<u64>
+    ensures same { IfNone result (papers_of header.now ≡ papers_in papers.now) }
+    ensures differ { IfSome result (λ at. Differ (papers_of header.now) (papers_in papers.now)) }
+    ensures at { IfSome result (AgreeFor (paper_text (papers_of header.now)) (paper_text (papers_in papers.now))) }
 {
-    let named = Texts {
+    let named = Papers {
         map: header.map.as_slice(),
         plan: header.plan.as_slice(),
     };
-    if named.map == texts.map && named.plan == texts.plan {
+    if named.map == papers.map && named.plan == papers.plan {
         return None;
     }
-    Some(agreement(&named, texts) as u64)
+    Some(agreement(&named, papers) as u64)
 }

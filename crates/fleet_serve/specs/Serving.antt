@@ -18,7 +18,6 @@ use Rattle.fleet_serve.specs.declared.outcome.StepFault.{StepFault}
 use Rattle.fleet_serve.specs.declared.outcome.StepFault.TheVariants as step_fault
 use Rattle.fleet_serve.specs.declared.outcome.ServeFault.{ServeFault}
 use Rattle.fleet_serve.specs.declared.outcome.ServeFault.TheVariants as serve_fault
-use Rattle.fleet_serve.specs.declared.papers.Papers.{Papers as Texts}
 use Rattle.fleet_serve.specs.Told.{Told, Sends, SendsPart, IsAtEnd}
 use Rattle.fleet_serve.specs.Lines.{text_of}
 use Rattle.fleet_serve.specs.Turns.{Point, TurnMade, IsTurn, AreTurns, Turns, point_after, state_after, answers_of, lines_of}
@@ -35,10 +34,6 @@ pub record Course : Type 1 where
   pub rests : Type 0
   pub old : Clock
   pub new : Clock
-
--- the papers that were handed in
-abbrev pub papers_in : Texts → Papers
-papers_in texts = record { map = texts.map.now; plan = texts.plan.now }
 
 -- where a session stands whose fleet and journal are these
 abbrev pub point_of : FleetState → Standing → Point

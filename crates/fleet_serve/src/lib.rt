@@ -9,16 +9,15 @@ mod kit;
 pub mod laws;
 mod lines;
 mod outcome;
-mod papers;
 mod room;
 mod sending;
 mod serving;
 mod stepping;
 
+pub use fleet_recovery::Papers;
 pub use greeting::greet;
 pub use kit::Kit;
 pub use outcome::{ServeFault, Settings, StepFault, Turn};
-pub use papers::Papers;
 pub use sending::send_all;
 pub use serving::serve;
 pub use stepping::step;

@@ -6,7 +6,8 @@ use Rattle.fleet_base.specs.Bytes.{whole_lines}
 use Rattle.fleet_serve.proofs.StepMoments.{resting}
 use Rattle.fleet_recovery.specs.Opening.{IsAtRest}
 use Rattle.fleet_serve.specs.declared.outcome.StepFault.{StepFault}
-use Rattle.fleet_serve.specs.Serving.{Serves, course, papers_in, point_of}
+use Rattle.fleet_recovery.specs.Papers.{papers_in}
+use Rattle.fleet_serve.specs.Serving.{Serves, course, point_of}
 use Rattle.fleet_serve.specs.Reading.{kept_of, unfinished, Hears}
 use Rattle.fleet_serve.proofs.Moments.{counted_self, counted_on}
 use Rattle.fleet_serve.proofs.Pieces.{unfinished_is, unfinished_join, no_line, all_begun}

@@ -2,7 +2,8 @@ use Rattle.std.proofs.Common.{◌≡◌, ◌++◌, ◌≤◌, ℕ, List, length,
 use Rattle.fleet_base.specs.Rules.{IsFleetState}
 use Rattle.station_api.specs.Causes.{Counted}
 use Rattle.fleet_recovery.specs.Opening.{StandsWith, IsAtRest}
-use Rattle.fleet_serve.specs.Serving.{Serves, course, papers_in}
+use Rattle.fleet_recovery.specs.Papers.{papers_in}
+use Rattle.fleet_serve.specs.Serving.{Serves, course}
 use Rattle.fleet_serve.specs.Reading.{IsUnfinished, kept_of, unfinished}
 use Rattle.fleet_serve.proofs.serving.hear_all.Given as goal
 

@@ -2,7 +2,8 @@ use Rattle.std.proofs.Common.{◌≡◌, ◌∷◌, [], ℕ, List, Result, Ok, E
 use Rattle.std.proofs.lemmas.Result.{err_from_is_err_and}
 use Rattle.fleet_base.specs.Bytes.{without_cr}
 use Rattle.fleet_serve.specs.declared.outcome.StepFault.{StepFault}
-use Rattle.fleet_serve.specs.Serving.{Course, course, papers_in}
+use Rattle.fleet_recovery.specs.Papers.{papers_in}
+use Rattle.fleet_serve.specs.Serving.{Course, course}
 use Rattle.fleet_serve.specs.Reading.{kept_of, Hears}
 use Rattle.fleet_base.proofs.Pieces.{without_cr-shorter}
 use Rattle.fleet_serve.proofs.StepMoments.{resting}

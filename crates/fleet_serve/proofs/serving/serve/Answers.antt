@@ -4,7 +4,8 @@ use Rattle.fleet_serve.specs.declared.outcome.StepFault.{StepFault}
 use Rattle.station_api.specs.Clock.{Clock}
 use Rattle.fleet_serve.proofs.StepMoments.{resting}
 use Rattle.fleet_recovery.specs.Opening.{IsAtRest}
-use Rattle.fleet_serve.specs.Serving.{papers_in, point_of, course}
+use Rattle.fleet_recovery.specs.Papers.{papers_in}
+use Rattle.fleet_serve.specs.Serving.{point_of, course}
 use Rattle.fleet_serve.specs.Reading.{unfinished, Hears}
 use Rattle.fleet_serve.proofs.Moments.{counted_self, counted_on}
 use Rattle.fleet_serve.proofs.Pieces.{unfinished_is}

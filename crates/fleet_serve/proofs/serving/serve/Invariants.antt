@@ -1,7 +1,8 @@
 use Rattle.fleet_base.specs.Rules.{IsFleetState}
 use Rattle.station_api.specs.Causes.{Counted}
 use Rattle.fleet_recovery.specs.Opening.{StandsWith, IsAtRest}
-use Rattle.fleet_serve.specs.Serving.{course, papers_in}
+use Rattle.fleet_recovery.specs.Papers.{papers_in}
+use Rattle.fleet_serve.specs.Serving.{course}
 use Rattle.fleet_serve.proofs.GoingOn.{HasServed}
 use Rattle.fleet_serve.proofs.serving.serve.Given as goal
 

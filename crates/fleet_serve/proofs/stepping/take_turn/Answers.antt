@@ -1,7 +1,7 @@
 use Rattle.std.proofs.Common.{[], refl, sym, subst, append-nil}
 use Rattle.fleet_base.specs.Order.{Graph}
 use Rattle.fleet_base.specs.Rules.{IsFleetState}
-use Rattle.fleet_serve.specs.Serving.{papers_in}
+use Rattle.fleet_recovery.specs.Papers.{papers_in}
 use Rattle.fleet_serve.proofs.StepMoments.{resting, frame_short, frame_fits, entry_leads, entry_step, kept_ready, step_broken}
 use Rattle.fleet_serve.proofs.stepping.take_turn.Goals as goal
 
