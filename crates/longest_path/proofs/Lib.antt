@@ -1,4 +1,4 @@
-pub mod Edges
+pub mod Places
 pub mod Latest
 pub mod Own
 pub mod Numbering
@@ -11,4 +11,3 @@ pub mod Closing
 pub mod Tightness
 pub mod Walking
 pub mod Finding
-pub mod Costs

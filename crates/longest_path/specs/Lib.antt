@@ -1,5 +1,4 @@
 pub mod Ticks
-pub mod Paths
 pub mod Closed
 pub mod Kept
 pub mod Earliest
