@@ -9,12 +9,12 @@ use Rattle.fleet_base.specs.Pairs.{numbers_of}
 use Rattle.fleet_base.specs.Order.{Graph, HasEdge}
 use Rattle.fleet_base.specs.State.{FleetState, arrived_count, duration_of}
 use Rattle.plan_graph.proofs.Numbers.{not_numbered}
-use Rattle.cert_check.specs.declared.edges.Edge.{Edge}
-use Rattle.cert_check.specs.Paths.{edge_in}
+use Rattle.fleet_base.specs.declared.order.Edge.{Edge}
+use Rattle.fleet_base.specs.Paths.{edge_in}
 use Rattle.cert_check.specs.Rounds.{floor, along_bound, edge_bound, pair_bound, asked, raised}
-use Rattle.cert_check.proofs.EdgeLaws.{edge_has}
+use Rattle.fleet_base.proofs.Walking.{edge_has}
 use Rattle.cert_check.proofs.Least.{pair_within, raised_ahead, edge_asked}
-use Rattle.cert_check.proofs.Places.{listed_within}
+use Rattle.std.proofs.lemmas.Option.{slice_get_within}
 
 module _ (g : Graph) (x : FleetState) (order : ℕ → Option Side) (f : Visit → ℕ) (v : Visit) where
   -- the first n pairs of the visit have asked
@@ -38,7 +38,7 @@ module _ (g : Graph) (x : FleetState) (order : ℕ → Option Side) (f : Visit �
     where
       go : (o : Option Edge) → edge_in g order q ≡ o → edge_bound x f v o ≤ 0
       go None e = omega arith
-      go (Some e) is = let k = edge_has g order q e is in absurd (omega (arith, h, listed_within g.pairs q k.pair k.listed))
+      go (Some e) is = let k = edge_has g order q e is in absurd (omega (arith, h, slice_get_within g.pairs q k.pair k.listed))
 
   no_more_than_all : (q : ℕ) → edge_bound x f v (edge_in g order q) ≤ pair_bound g x order f v (length g.pairs)
   no_more_than_all q = go (cases_lt q (length g.pairs))

@@ -1,18 +1,15 @@
 -- A cycle, followed edge by edge.
-use Rattle.std.proofs.Common.{ℕ, ◌≡◌, ◌+◌, ◌<◌, ◌≤◌, List, [], ◌∷◌, Some, None, Option, true, false, refl, sym, ap, ◌∙◌, subst, arith, length, drop, get_or, eqb, leb}
-use Rattle.std.specs.Prelude.{◌&&◌}
-use Rattle.std.proofs.lemmas.Bool.{eq-eqb, le-leb, and_from}
+use Rattle.std.proofs.Common.{ℕ, ◌≡◌, ◌+◌, ◌<◌, ◌≤◌, List, [], ◌∷◌, Some, None, Option, true, false, refl, sym, ap, ◌∙◌, subst, arith, length, drop, get_or}
 use Rattle.std.proofs.lemmas.List.{drop_more, drop_all}
 use Rattle.fleet_base.specs.declared.geometry.Visit.{Visit}
 use Rattle.fleet_base.specs.declared.order.PairId.{PairId}
 use Rattle.fleet_base.specs.declared.order.Side.{Side}
 use Rattle.fleet_base.specs.Lists.{Chain, Ring}
-use Rattle.fleet_base.specs.Order.{Graph, LeadsTo, IsCycle, last_in}
-use Rattle.cert_check.specs.declared.edges.Edge.{Edge}
-use Rattle.cert_check.specs.Paths.{edge_in, leads_on}
-use Rattle.cert_check.proofs.EdgeLaws.{edge_has, edge_unique}
-use Rattle.cert_check.proofs.PathBound.{can_go}
-use Rattle.cert_check.proofs.Walks.{edge_is}
+use Rattle.fleet_base.specs.Order.{Graph, LeadsTo, IsCycle}
+use Rattle.fleet_base.specs.declared.order.Edge.{Edge}
+use Rattle.fleet_base.specs.Paths.{edge_in, leads_on}
+use Rattle.fleet_base.proofs.Walking.{edge_is, edge_has, can_go, goes}
+use Rattle.fleet_base.proofs.Edges.{edge_unique}
 
 abbrev pub none : PairId
 none = record { 0 = 0 }
@@ -30,7 +27,7 @@ module _ (g : Graph) (order : ℕ → Option Side) where
   leads_back q r e f a b l =
       let u = edge_unique g order q l.tail l.head e.tail e.head l.edge (edge_has g order q e a) in
       let v = edge_unique g order r l.next_tail l.next_head f.tail f.head l.next_edge (edge_has g order r f b) in
-      let test : leads_on g l.head l.next_tail ≡ true = and_from (eqb l.head.robot l.next_tail.robot) (leb l.head.index l.next_tail.index && leb l.next_tail.index (last_in g l.next_tail.robot)) (eq-eqb l.head.robot l.next_tail.robot l.robot) (and_from (leb l.head.index l.next_tail.index) (leb l.next_tail.index (last_in g l.next_tail.robot)) (le-leb _ _ l.onward) (le-leb _ _ l.there.index)) in
+      let test = goes g l.head l.next_tail (record { robot = l.robot; onward = l.onward; within = l.there.index }) in
       ap (λ (w : Visit). leads_on g w f.tail) (sym u.1) ∙ ap (λ (w : Visit). leads_on g l.head w) (sym v.0) ∙ test
 
   no_edge : (q : ℕ) → edge_in g order q ≡ None → (r : ℕ) → LeadsTo g order r q → ⊥

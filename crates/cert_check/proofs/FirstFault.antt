@@ -1,37 +1,16 @@
 -- How a checker that goes through a list shows its verdict.
 use Rattle.std.proofs.Common.{ℕ, suc, zero, ◌≡◌, ◌≢◌, ◌<◌, ◌≤◌, List, [], ◌∷◌, Some, refl, sym, ap, ◌∙◌, subst, inl, inr, arith, length, take}
 use Rattle.std.specs.Prelude.{slice_get}
+use Rattle.std.proofs.lemmas.List.{take_all, take-take, length-take-le}
 use Rattle.cert_tree.specs.declared.node.Node.{Node}
 use Rattle.cert_check.specs.Decisions.{Decision}
 use Rattle.cert_check.specs.declared.verdict.NoWhy.{NoWhy}
 use Rattle.cert_check.specs.declared.verdict.NoWhy.TheVariants.{Shape}
 use Rattle.cert_check.specs.Verdicts.{ways_left, ways_at, Fits, rank_of, IsEarlier, IsFirstFault}
 use Rattle.cert_check.specs.Verdicts.Fits.{after_the_end, too_early, at_node, in_whole}
-use Rattle.cert_check.proofs.Places.{listed_within}
+use Rattle.std.proofs.lemmas.Option.{slice_get_within}
 use Rattle.cert_check.specs.Judging.{EachListed}
 use Rattle.cert_check.proofs.Preorder.{met_at, not_after}
-
-take_all : {X : Type 0} (xs : List X) → take (length xs) xs ≡ xs
-take_all [] = refl
-take_all (x ∷ xs) = ap (λ (ys : List _). x ∷ ys) (take_all xs)
-
-take_less : {X : Type 0} (xs : List X) (j k : ℕ) → j ≤ k → take j (take k xs) ≡ take j xs
-take_less {X} [] j k h = refl_take j k
-  where
-    refl_take : (j k : ℕ) → take {A = X} j (take {A = X} k []) ≡ take {A = X} j []
-    refl_take zero zero = refl
-    refl_take zero (suc k) = refl
-    refl_take (suc j) zero = refl
-    refl_take (suc j) (suc k) = refl
-take_less (x ∷ xs) zero k h = refl
-take_less (x ∷ xs) (suc j) zero h = absurd (omega (arith, h))
-take_less (x ∷ xs) (suc j) (suc k) h = ap (λ (ys : List _). x ∷ ys) (take_less xs j k (omega (arith, h)))
-
-take_length : {X : Type 0} (xs : List X) (k : ℕ) → k ≤ length xs → length (take k xs) ≡ k
-take_length [] zero h = refl
-take_length [] (suc k) h = absurd (omega (arith, h))
-take_length (x ∷ xs) zero h = refl
-take_length (x ∷ xs) (suc k) h = ap suc (take_length xs k (omega (arith, h)))
 
 take_get : {X : Type 0} (xs : List X) (j k : ℕ) (x : X) → j < k → slice_get xs j ≡ Some x → slice_get (take k xs) j ≡ Some x
 take_get [] j k x h e = cc
@@ -57,10 +36,10 @@ module _ (meets : List Decision → Node → Type 0) (rule : List Decision → N
   -- nothing fits before a place up to which all nodes are right
   before : (k j : ℕ) (w : NoWhy) → k ≤ length nodes → EachListed meets (take k nodes) ([] ∷ []) → j < k → Where rule whole nodes j w → ⊥
   before k j w le m lt (past a b c) =
-      not_after meets (take k nodes) ([] ∷ []) j m (omega (arith, take_length nodes k le)) (ap (λ (ns : List Node). ways_left ns ([] ∷ [])) (take_less nodes j k (omega arith)) ∙ b)
+      not_after meets (take k nodes) ([] ∷ []) j m (omega (arith, length-take-le k nodes le)) (ap (λ (ns : List Node). ways_left ns ([] ∷ [])) (take-take j k nodes (omega arith)) ∙ b)
   before k j w le m lt (early a b c) = omega arith
   before k j w le m lt (here node way ways a b f) =
-      excludes way node w (met_at meets (take k nodes) ([] ∷ []) j node way ways m (take_get nodes j k node lt a) (ap (λ (ns : List Node). ways_left ns ([] ∷ [])) (take_less nodes j k (omega arith)) ∙ b)) f
+      excludes way node w (met_at meets (take k nodes) ([] ∷ []) j node way ways m (take_get nodes j k node lt a) (ap (λ (ns : List Node). ways_left ns ([] ∷ [])) (take-take j k nodes (omega arith)) ∙ b)) f
   before k j w le m lt (all a f) = omega arith
 
   -- a node that fails, after nodes that do not
@@ -69,7 +48,7 @@ module _ (meets : List Decision → Node → Type 0) (rule : List Decision → N
   fails_at k node way ways why m g w f least = record { here = at_node k node way ways why g w f; first = λ j v e h. first j v e (where_fits rule whole nodes j v h) }
     where
       within : k < length nodes
-      within = listed_within nodes k node g
+      within = slice_get_within nodes k node g
 
       same : (j : ℕ) (v : NoWhy) → j ≡ k → rank_of v < rank_of why → Where rule whole nodes j v → ⊥
       same j v e lt (past a b c) = let x : ways_at nodes j ≡ ways_at nodes k = ap (ways_at nodes) e in cc
@@ -95,12 +74,12 @@ module _ (meets : List Decision → Node → Type 0) (rule : List Decision → N
       first j v (inr (e, none)) h = omega (arith, none)
 
   all_of : EachListed meets nodes ([] ∷ []) → EachListed meets (take (length nodes) nodes) ([] ∷ [])
-  all_of m = subst (λ (ns : List Node). EachListed meets ns ([] ∷ [])) (sym (take_all nodes)) m
+  all_of m = subst (λ (ns : List Node). EachListed meets ns ([] ∷ [])) (sym (take_all (length nodes) nodes (omega arith))) m
 
   -- a tree that ends too early
   pub fails_early : EachListed meets nodes ([] ∷ []) → ways_left nodes ([] ∷ []) ≢ [] → IsFirstFault (Fits rule whole nodes) (length nodes) Shape
   fails_early m w = record {
-    here = too_early (λ e. w (ap (λ (ns : List Node). ways_left ns ([] ∷ [])) (sym (take_all nodes)) ∙ e));
+    here = too_early (λ e. w (ap (λ (ns : List Node). ways_left ns ([] ∷ [])) (sym (take_all (length nodes) nodes (omega arith))) ∙ e));
     first = λ j v e h. first j v e (where_fits rule whole nodes j v h);
   }
     where
@@ -113,13 +92,13 @@ module _ (meets : List Decision → Node → Type 0) (rule : List Decision → N
   fails_whole why m w f least = record { here = in_whole why f; first = λ j v e h. first j v e (where_fits rule whole nodes j v h) }
     where
       ended : ways_at nodes (length nodes) ≡ []
-      ended = ap (λ (ns : List Node). ways_left ns ([] ∷ [])) (take_all nodes) ∙ w
+      ended = ap (λ (ns : List Node). ways_left ns ([] ∷ [])) (take_all (length nodes) nodes (omega arith)) ∙ w
 
       same : (j : ℕ) (v : NoWhy) → j ≡ length nodes → rank_of v < rank_of why → Where rule whole nodes j v → ⊥
       same j v e lt (past a b c) = omega arith
       same j v e lt (early a b c) = b (ap (ways_at nodes) e ∙ ended)
       same j v e lt (all a h) = least v lt h
-      same j v e lt (here node way ways a b h) = let x = listed_within nodes j node a in omega arith
+      same j v e lt (here node way ways a b h) = let x = slice_get_within nodes j node a in omega arith
 
       first : (j : ℕ) (v : NoWhy) → IsEarlier j v (length nodes) why → Where rule whole nodes j v → ⊥
       first j v (inl lt) h = before (length nodes) j v (omega arith) (all_of m) lt h

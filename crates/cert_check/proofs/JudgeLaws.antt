@@ -8,7 +8,7 @@ use Rattle.fleet_base.specs.declared.geometry.Visit.{Visit}
 use Rattle.fleet_base.specs.declared.order.Pair.{Pair as PairOf}
 use Rattle.fleet_base.specs.declared.order.PairId.{PairId}
 use Rattle.fleet_base.specs.declared.order.Side.{Side}
-use Rattle.fleet_base.specs.Order.{Graph, IsVisit, next_visit, first_visit, second_visit, IsCycle, IsCyclic, IsSorted}
+use Rattle.fleet_base.specs.Order.{Graph, IsVisit, next_visit, first_visit, second_visit, IsCycle, IsCyclic, IsSorted, other_side}
 use Rattle.fleet_base.specs.State.{FleetState}
 use Rattle.fleet_base.specs.Open.{is_open}
 use Rattle.fleet_base.specs.Rules.{IsFleetState}
@@ -19,16 +19,18 @@ use Rattle.cert_check.specs.declared.judge.Kind.{Kind}
 use Rattle.cert_check.specs.declared.judge.Kind.TheVariants as kind
 use Rattle.cert_check.specs.declared.verdict.NoWhy.{NoWhy}
 use Rattle.cert_check.specs.declared.verdict.NoWhy.TheVariants.{Shape, Pair, Cycle, Path, Sum, Leaf, Needed}
-use Rattle.cert_check.specs.Decisions.{Decision, side_on, order_on, IsFree, other}
+use Rattle.cert_check.specs.Decisions.{Decision, side_on, order_on, IsFree}
 use Rattle.cert_check.specs.Paths.{ArePaths, total_length}
 use Rattle.cert_check.specs.Sides.{decided, order_by}
 use Rattle.cert_check.specs.Trees.{force_to, IsAcyclic, IsNeeded, IsLeftOpen}
 use Rattle.cert_check.proofs.Lawful.{listed}
 use Rattle.cert_check.proofs.Walks.{tail_there}
-use Rattle.cert_check.proofs.EdgeLaws.{visit_before, head_there, open_goes_on}
+use Rattle.fleet_base.proofs.Edges.{head_there}
+use Rattle.fleet_base.proofs.OpenPairs.{open_goes_on}
+use Rattle.cert_check.proofs.EdgeLaws.{visit_before}
 use Rattle.cert_check.specs.Verdicts.{rank_of, IsFault, IsOptimalFault, IsSpentFault}
 use Rattle.cert_check.specs.Judging.{Gives, Judges, MeetsAs, FailsAs, IsJudged}
-use Rattle.cert_check.proofs.Costs.{one_least, cost_of_least, one_cost}
+use Rattle.fleet_base.proofs.Costs.{one_least, cost_of_least, one_cost}
 use Rattle.cert_check.specs.Sides.{HasSides}
 use Rattle.cert_check.proofs.SideLaws.{same_order, keeps, open_within}
 
@@ -185,25 +187,25 @@ module _ (g : Graph) (x : FleetState) (sides : List (Option Side)) where
       go (inl e) = ap (λ n. get_or (set sides q.0 (Some s)) n None) (sym e) ∙ get_or-set_same sides q.0 (Some s) None inside ∙ sym (ap (λ b. cond b (Some s) (side_on way r)) (eq-eqb q.0 r e))
       go (inr n) = get_or-set_other sides q.0 r (Some s) None (λ e. n (sym e)) ∙ gives r ∙ sym (ap (λ b. cond b (Some s) (side_on way r)) (ne_eqb q.0 r n))
 
-  pub force_judged : (q : PairId) (s : Side) (cycle : List PairId) (is : Bool) (found : Option NoWhy) → (is_open g x q.0 ≡ true) × (decided sides q.0 ≡ None) → q.0 < length sides → (is ≡ true → IsCycle g (order_by g x (set sides q.0 (Some (other s)))) cycle) × (IsCycle g (order_by g x (set sides q.0 (Some (other s)))) cycle → is ≡ true) → found ≡ cond is None (Some Cycle) → (cost : ℕ) (k : Kind) → IsJudged g x cost k sides (Force q s cycle) found
+  pub force_judged : (q : PairId) (s : Side) (cycle : List PairId) (is : Bool) (found : Option NoWhy) → (is_open g x q.0 ≡ true) × (decided sides q.0 ≡ None) → q.0 < length sides → (is ≡ true → IsCycle g (order_by g x (set sides q.0 (Some (other_side s)))) cycle) × (IsCycle g (order_by g x (set sides q.0 (Some (other_side s)))) cycle → is ≡ true) → found ≡ cond is None (Some Cycle) → (cost : ℕ) (k : Kind) → IsJudged g x cost k sides (Force q s cycle) found
   force_judged q s cycle is found free inside test e cost k way gives = subst (λ o. Judges (MeetsAs g x cost k way (Force q s cycle)) (FailsAs g x cost k way (Force q s cycle)) o) (sym e) (go is test k)
     where
-      same : order_by g x (set sides q.0 (Some (other s))) ≡ order_on g x (force_to q (other s) ∷ way)
-      same = same_order g x (force_to q (other s) ∷ way) (set sides q.0 (Some (other s))) (forced_gives q (other s) way gives inside)
+      same : order_by g x (set sides q.0 (Some (other_side s))) ≡ order_on g x (force_to q (other_side s) ∷ way)
+      same = same_order g x (force_to q (other_side s) ∷ way) (set sides q.0 (Some (other_side s))) (forced_gives q (other_side s) way gives inside)
 
-      there : IsCycle g (order_by g x (set sides q.0 (Some (other s)))) cycle → IsCycle g (order_on g x (force_to q (other s) ∷ way)) cycle
+      there : IsCycle g (order_by g x (set sides q.0 (Some (other_side s)))) cycle → IsCycle g (order_on g x (force_to q (other_side s) ∷ way)) cycle
       there c = subst (λ (o : ℕ → Option Side). IsCycle g o cycle) same c
 
-      back : IsCycle g (order_on g x (force_to q (other s) ∷ way)) cycle → IsCycle g (order_by g x (set sides q.0 (Some (other s)))) cycle
+      back : IsCycle g (order_on g x (force_to q (other_side s) ∷ way)) cycle → IsCycle g (order_by g x (set sides q.0 (Some (other_side s)))) cycle
       back c = subst (λ (o : ℕ → Option Side). IsCycle g o cycle) (sym same) c
 
-      go : (b : Bool) → (b ≡ true → IsCycle g (order_by g x (set sides q.0 (Some (other s)))) cycle) × (IsCycle g (order_by g x (set sides q.0 (Some (other s)))) cycle → b ≡ true) → (k : Kind) → Judges (MeetsAs g x cost k way (Force q s cycle)) (FailsAs g x cost k way (Force q s cycle)) (cond b None (Some Cycle))
+      go : (b : Bool) → (b ≡ true → IsCycle g (order_by g x (set sides q.0 (Some (other_side s)))) cycle) × (IsCycle g (order_by g x (set sides q.0 (Some (other_side s)))) cycle → b ≡ true) → (k : Kind) → Judges (MeetsAs g x cost k way (Force q s cycle)) (FailsAs g x cost k way (Force q s cycle)) (cond b None (Some Cycle))
       go true t kind.Optimal = ((free_on way gives q.0 free, there (t.0 refl)), tt)
       go true t (kind.Spent least budget) = ((free_on way gives q.0 free, there (t.0 refl)), tt)
       go false t kind.Optimal = (λ c. (let z = t.1 (back c) in cc), λ w lt f. force_mid g x cost way q s cycle (free_on way gives q.0 free) w lt f)
       go false t (kind.Spent least budget) = (λ c. (let z = t.1 (back c) in cc), λ w lt f. force_mid g x cost way q s cycle (free_on way gives q.0 free) w lt f)
 
-  pub force_judged_by : (q : PairId) (s : Side) (cycle : List PairId) (is : Bool) (found : Option NoWhy) (o : Side) → o ≡ other s → (is_open g x q.0 ≡ true) × (decided sides q.0 ≡ None) → q.0 < length sides → (is ≡ true → IsCycle g (order_by g x (set sides q.0 (Some o))) cycle) × (IsCycle g (order_by g x (set sides q.0 (Some o))) cycle → is ≡ true) → found ≡ cond is None (Some Cycle) → (cost : ℕ) (k : Kind) → IsJudged g x cost k sides (Force q s cycle) found
+  pub force_judged_by : (q : PairId) (s : Side) (cycle : List PairId) (is : Bool) (found : Option NoWhy) (o : Side) → o ≡ other_side s → (is_open g x q.0 ≡ true) × (decided sides q.0 ≡ None) → q.0 < length sides → (is ≡ true → IsCycle g (order_by g x (set sides q.0 (Some o))) cycle) × (IsCycle g (order_by g x (set sides q.0 (Some o))) cycle → is ≡ true) → found ≡ cond is None (Some Cycle) → (cost : ℕ) (k : Kind) → IsJudged g x cost k sides (Force q s cycle) found
   force_judged_by q s cycle is found o eq free inside test e = force_judged q s cycle is found free inside (subst (λ (d : Side). (is ≡ true → IsCycle g (order_by g x (set sides q.0 (Some d))) cycle) × (IsCycle g (order_by g x (set sides q.0 (Some d))) cycle → is ≡ true)) eq test) e
 
   -- ---- a part decision, relaxed

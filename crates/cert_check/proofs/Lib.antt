@@ -9,7 +9,6 @@ pub mod FirstFault
 pub mod OneVerdict
 pub mod Walks
 pub mod Least
-pub mod Costs
 pub mod SideLaws
 pub mod WayLaws
 pub mod CycleLaws

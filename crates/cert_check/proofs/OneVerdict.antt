@@ -1,7 +1,8 @@
 -- A list of nodes has one verdict: a tree of its kind has no fault, and there is one first fault.
-use Rattle.std.proofs.Common.{ℕ, suc, zero, ◌≡◌, ◌<◌, ◌≤◌, ◌⊎◌, List, [], ◌∷◌, refl, sym, ap, ◌∙◌, subst, inl, inr, arith, length, take, append-nil}
+use Rattle.std.proofs.Common.{ℕ, suc, zero, ◌≡◌, ◌<◌, ◌≤◌, ◌⊎◌, List, [], ◌∷◌, refl, sym, ap, ◌∙◌, subst, inl, inr, arith, length, append-nil}
 use Rattle.std.specs.Prelude.{Contains, All}
 use Rattle.std.proofs.lemmas.Bool.{cases_lt}
+use Rattle.std.proofs.lemmas.List.{take_all}
 use Rattle.fleet_base.specs.Order.{Graph}
 use Rattle.fleet_base.specs.State.{FleetState}
 use Rattle.fleet_base.proofs.Members.{in_none}
@@ -19,10 +20,6 @@ use Rattle.cert_check.proofs.TreeBound.{both_rules}
 use Rattle.cert_check.specs.Judging.{EachListed}
 use Rattle.cert_check.proofs.Preorder.{each_of_tree, met_at, not_after, ways_of_tree, branches_of_tree, left_of_tree}
 
-take_all : {X : Type 0} (xs : List X) → take (length xs) xs ≡ xs
-take_all [] = refl
-take_all (x ∷ xs) = ap (λ (ys : List _). x ∷ ys) (take_all xs)
-
 -- where each node meets the rules that exclude the faults, and so does the whole, no word fits
 module _ (meets : List Decision → Node → Type 0) (rule : List Decision → Node → NoWhy → Type 0) (whole : NoWhy → Type 0)
     (excludes : (way : List Decision) (node : Node) (why : NoWhy) → meets way node → rule way node why → ⊥) (complete : (why : NoWhy) → whole why → ⊥) where
@@ -32,7 +29,7 @@ module _ (meets : List Decision → Node → Type 0) (rule : List Decision → N
   pub nothing_fits : (nodes : List Node) (tree : Tree) (k : ℕ) (why : NoWhy) → nodes ≡ nodes_of tree → EachNode meets [] tree → Fits rule whole nodes k why → ⊥
   nothing_fits nodes tree _ _ e m (after_the_end k lt w) = not_after meets nodes ([] ∷ []) k (of_list nodes tree e m) lt w
   nothing_fits nodes tree _ _ e m (too_early w) =
-      w (ap (λ (ns : List Node). ways_left ns ([] ∷ [])) (take_all nodes ∙ e ∙ sym (append-nil (nodes_of tree))) ∙ ways_of_tree tree [] [] [])
+      w (ap (λ (ns : List Node). ways_left ns ([] ∷ [])) (take_all (length nodes) nodes (omega arith) ∙ e ∙ sym (append-nil (nodes_of tree))) ∙ ways_of_tree tree [] [] [])
   nothing_fits nodes tree _ _ e m (at_node k node way ways why here there f) = excludes way node why (met_at meets nodes ([] ∷ []) k node way ways (of_list nodes tree e m) here there) f
   nothing_fits nodes tree _ _ e m (in_whole why f) = complete why f
 

@@ -1,9 +1,9 @@
 -- The length of a path is at most the last tick of its robot.
-use Rattle.std.proofs.Common.{ℕ, suc, zero, ◌≡◌, ◌+◌, ◌-◌, ◌<◌, ◌≤◌, ◌⊎◌, max, List, [], ◌∷◌, Some, None, Option, true, false, Bool, cond, refl, sym, ap, subst, inl, inr, arith, length, ltb, eqb, leb}
-use Rattle.std.specs.Prelude.{option_and_then, sum_by, ◌&&◌, unwrap_or, IsSome}
+use Rattle.std.proofs.Common.{ℕ, suc, zero, ◌≡◌, ◌+◌, ◌-◌, ◌<◌, ◌≤◌, ◌⊎◌, max, List, [], ◌∷◌, Some, None, Option, true, false, Bool, cond, refl, sym, ap, subst, inl, inr, arith, length, ltb, eqb}
+use Rattle.std.specs.Prelude.{option_and_then, sum_by, unwrap_or, IsSome}
 use Rattle.std.specs.List.{range_with_len}
 use Rattle.std.proofs.lemmas.List.Sums.{sum_by-cons}
-use Rattle.std.proofs.lemmas.Bool.{cases_lt, ltb-true, ltb-false, eqb-true, leb-true}
+use Rattle.std.proofs.lemmas.Bool.{cases_lt, ltb-true, ltb-false, eqb-true}
 use Rattle.fleet_base.specs.declared.geometry.Visit.{Visit}
 use Rattle.fleet_base.specs.declared.order.PairId.{PairId}
 use Rattle.fleet_base.specs.declared.order.Side.{Side}
@@ -13,39 +13,15 @@ use Rattle.fleet_base.specs.State.{FleetState, HasArrived, arrived_count, releas
 use Rattle.fleet_base.specs.Rules.{IsFleetState}
 use Rattle.fleet_base.specs.Schedule.{IsSchedule, ObeysEdge, end_sum_of}
 use Rattle.cert_tree.specs.declared.node.CertPath.{CertPath}
-use Rattle.cert_check.specs.declared.edges.Edge.{Edge}
-use Rattle.cert_check.specs.Paths.{edge_in, travel, leads_on, walk_end, coming, start_tick, has_finished, start_robot, finished_length, path_length, path_for, length_for, ArePaths, total_length}
-use Rattle.cert_check.proofs.EdgeLaws.{visit, edge_has, head_there, visit_before}
+use Rattle.fleet_base.specs.declared.order.Edge.{Edge}
+use Rattle.fleet_base.specs.Paths.{edge_in, travel, leads_on, walk_end, coming, start_tick, has_finished, start_robot, finished_length, path_length}
+use Rattle.cert_check.specs.Paths.{path_for, length_for, ArePaths, total_length}
+use Rattle.fleet_base.proofs.Walking.{CanGo, can_go, edge_has}
+use Rattle.fleet_base.proofs.Edges.{head_there}
+use Rattle.fleet_base.proofs.Costs.{range_sum}
+use Rattle.cert_check.proofs.EdgeLaws.{visit, visit_before}
 use Rattle.cert_check.specs.Orders.{KeepsClosed, ObeysPairs}
 use Rattle.cert_check.proofs.Lawful.{tail_arrived}
-
--- ---- sums
-
--- a sum over a range of numbers is no more than another that is no less at each
-pub range_sum : (f h : ℕ → ℕ) (n a : ℕ) → ((k : ℕ) → a ≤ k → k < a + n → f k ≤ h k) → sum_by f (range_with_len a n) ≤ sum_by h (range_with_len a n)
-range_sum f h zero a each = omega arith
-range_sum f h (suc n) a each =
-    let first = each a (omega arith) (omega arith) in
-    let rest = range_sum f h n (a + 1) (λ k low high. each k (omega arith) (omega arith)) in
-    let left = sum_by-cons f a (range_with_len (a + 1) n) in
-    let right = sum_by-cons h a (range_with_len (a + 1) n) in
-    omega arith
-
-both : (s t : Bool) → (s && t) ≡ true → (s ≡ true) × (t ≡ true)
-both true t h = (refl, h)
-both false t h = cc
-
--- what a walk's test says
-pub record CanGo (g : Graph) (at to : Visit) : Type 0 where
-  pub robot : at.robot ≡ to.robot
-  pub onward : at.index ≤ to.index
-  pub within : to.index ≤ last_in g to.robot
-
-pub can_go : (g : Graph) (at to : Visit) → leads_on g at to ≡ true → CanGo g at to
-can_go g at to h =
-    let a = both (eqb at.robot to.robot) (leb at.index to.index && leb to.index (last_in g to.robot)) h in
-    let b = both (leb at.index to.index) (leb to.index (last_in g to.robot)) a.1 in
-    record { robot = eqb-true at.robot to.robot a.0; onward = leb-true at.index to.index b.0; within = leb-true to.index (last_in g to.robot) b.1 }
 
 -- the first leg of a walk that gets to its end
 first_leg : (g : Graph) (x : FleetState) (order : ℕ → Option Side) (q : PairId) (qs : List PairId) (i : ℕ) (at : Visit) (tick end : ℕ)

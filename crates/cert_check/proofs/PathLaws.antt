@@ -10,7 +10,8 @@ use Rattle.fleet_base.specs.declared.order.Side.{Side}
 use Rattle.fleet_base.specs.Order.{Graph}
 use Rattle.fleet_base.specs.State.{FleetState}
 use Rattle.cert_tree.specs.declared.node.CertPath.{CertPath}
-use Rattle.cert_check.specs.Paths.{path_for, length_for, path_length, ArePaths, total_length}
+use Rattle.fleet_base.specs.Paths.{path_length}
+use Rattle.cert_check.specs.Paths.{path_for, length_for, ArePaths, total_length}
 use Rattle.cert_check.specs.Judging.{TakesPath}
 use Rattle.cert_check.proofs.Walks.{sum_more}
 

@@ -1,31 +1,18 @@
 -- Places of visits in a list, and what is before what there.
-use Rattle.std.proofs.Common.{ℕ, suc, zero, ◌≡◌, ◌+◌, ◌<◌, ◌≤◌, ◌⊎◌, List, [], ◌∷◌, Some, Option, true, false, Bool, cond, refl, ap, inl, inr, arith, length, eqb}
-use Rattle.std.specs.Prelude.{slice_get, ◌&&◌, Contains}
-use Rattle.std.proofs.lemmas.Bool.{eq-eqb, eqb-true}
+use Rattle.std.proofs.Common.{ℕ, suc, ◌≡◌, ◌+◌, ◌<◌, ◌≤◌, ◌⊎◌, List, [], ◌∷◌, Some, Option, true, false, Bool, cond, refl, sym, ap, ◌∙◌, inl, inr, arith, length}
+use Rattle.std.specs.Prelude.{slice_get, Contains}
 use Rattle.fleet_base.specs.declared.geometry.Visit.{Visit}
 use Rattle.fleet_base.specs.declared.order.PairId.{PairId}
 use Rattle.fleet_base.specs.declared.order.Side.{Side}
 use Rattle.fleet_base.specs.Pairs.{same_visit}
 use Rattle.fleet_base.specs.Order.{Graph, IsGraph, IsVisit, IsCycle, IsSorted, Before, next_visit}
 use Rattle.fleet_base.proofs.Members.{in_cons, in_none}
-use Rattle.cert_check.proofs.EdgeLaws.{head_there, visit_before, no_cycle}
-
-both : (s t : Bool) → (s && t) ≡ true → (s ≡ true) × (t ≡ true)
-both true t h = (refl, h)
-both false t h = cc
-
-both_true : (s t : Bool) → s ≡ true → t ≡ true → (s && t) ≡ true
-both_true true t a b = b
-both_true false t a b = cc
-
-pub same_visit_true : (u v : Visit) → same_visit u v ≡ true → u ≡ v
-same_visit_true u v h =
-    let r = eqb-true u.robot v.robot (both (eqb u.robot v.robot) (eqb u.index v.index) h).0 in
-    let k = eqb-true u.index v.index (both (eqb u.robot v.robot) (eqb u.index v.index) h).1 in
-    λ j. record { robot = r j; index = k j }
+use Rattle.plan_graph.proofs.Numbers.{same_visit-true, same_visit-refl}
+use Rattle.fleet_base.proofs.Edges.{head_there}
+use Rattle.cert_check.proofs.EdgeLaws.{visit_before, no_cycle}
 
 pub same_visit_refl : (u v : Visit) → u ≡ v → same_visit u v ≡ true
-same_visit_refl u v e = both_true (eqb u.robot v.robot) (eqb u.index v.index) (eq-eqb u.robot v.robot (ap (λ (w : Visit). w.robot) e)) (eq-eqb u.index v.index (ap (λ (w : Visit). w.index) e))
+same_visit_refl u v e = ap (λ (w : Visit). same_visit u w) (sym e) ∙ same_visit-refl u
 
 -- the place of a visit in a list, and its length where it is not in it
 abbrev pub place_in : List Visit → Visit → ℕ
@@ -39,7 +26,7 @@ stands (y ∷ ys) v h = go (same_visit y v) refl (in_cons y ys v h) (λ r. stand
   where
     go : (b : Bool) → same_visit y v ≡ b → (y ≡ v) ⊎ Contains ys v → (Contains ys v → (place_in ys v < length ys) × (slice_get ys (place_in ys v) ≡ Some v))
         → (cond b 0 (suc (place_in ys v)) < length (y ∷ ys)) × (slice_get (y ∷ ys) (cond b 0 (suc (place_in ys v))) ≡ Some v)
-    go true e o rest = (omega arith, ap Some (same_visit_true y v e))
+    go true e o rest = (omega arith, ap Some (same_visit-true y v e))
     go false e (inl s) rest = let t = same_visit_refl y v s in cc
     go false e (inr r) rest = (omega (arith, (rest r).0), (rest r).1)
 
@@ -53,9 +40,3 @@ module _ (g : Graph) (order : ℕ → Option Side) (list : List Visit) (sorted :
 
   pub no_cycle_sorted : IsGraph g → (cycle : List PairId) → IsCycle g order cycle → ⊥
   no_cycle_sorted graph = no_cycle g order (place_in list) step (λ q u v iu e. earlier u v iu (head_there g order q u v graph e) (inr (q, e)))
-
--- a place where something is listed is within the list
-pub listed_within : {X : Type 0} (xs : List X) (q : ℕ) (x : X) → slice_get xs q ≡ Some x → q < length xs
-listed_within [] q x e = cc
-listed_within (y ∷ ys) zero x e = omega arith
-listed_within (y ∷ ys) (suc q) x e = omega (arith, listed_within ys q x e)

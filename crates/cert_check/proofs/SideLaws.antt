@@ -13,8 +13,8 @@ use Rattle.cert_check.specs.Decisions.{Decision, order_on}
 use Rattle.cert_check.specs.Orders.{KeepsClosed}
 use Rattle.cert_check.specs.Sides.{decided, order_by}
 use Rattle.cert_check.specs.Judging.{Gives}
-use Rattle.cert_check.proofs.EdgeLaws.{open_listed}
-use Rattle.cert_check.proofs.Places.{listed_within}
+use Rattle.fleet_base.proofs.OpenPairs.{open_listed}
+use Rattle.std.proofs.lemmas.Option.{slice_get_within}
 use Rattle.cert_check.proofs.Walks.{tail_there}
 
 -- decided pairs leave the closed ones their sides
@@ -32,4 +32,4 @@ same_order g x way sides gives = ap (decision_order g x) (λ j q. gives q j)
 
 -- an open pair is there
 pub open_within : (g : Graph) (x : FleetState) (q : ℕ) → is_open g x q ≡ true → q < length g.pairs
-open_within g x q o = let l = open_listed g x q o in listed_within g.pairs q l.0 l.1
+open_within g x q o = let l = open_listed g x q o in slice_get_within g.pairs q l.0 l.1

@@ -11,9 +11,10 @@ use Rattle.fleet_base.specs.Open.{is_open}
 use Rattle.fleet_base.specs.Rules.{IsFleetState}
 use Rattle.fleet_base.specs.Schedule.{IsLawful, IsSchedule, ObeysEdge, ObeysSide, Obeys, IsCost}
 use Rattle.cert_check.specs.Trees.{Tree, IsOptimalTree}
-use Rattle.cert_check.proofs.EdgeLaws.{head_there, visit_before}
+use Rattle.fleet_base.proofs.Edges.{head_there}
+use Rattle.cert_check.proofs.EdgeLaws.{visit_before}
 use Rattle.cert_check.specs.Orders.{KeepsClosed}
-use Rattle.cert_check.proofs.Places.{listed_within}
+use Rattle.std.proofs.lemmas.Option.{slice_get_within}
 use Rattle.cert_check.proofs.Walks.{tail_there}
 use Rattle.cert_check.proofs.TreeBound.{optimal_below}
 
@@ -27,7 +28,7 @@ module _ (g : Graph) (x : FleetState) (graph : IsGraph g) (order : ℕ → Optio
     schedule = schedule;
     along = λ v is. obeys v (next_visit v) (visit_before g v.robot (v.index + 1) v.index is (omega arith)) is (inl refl);
     closed = λ q u v c e. edge q u v (record { pair = e.pair; side = e.side; listed = e.listed; sided = keeps q c ∙ e.sided; tail = e.tail; head = e.head });
-    either = λ q pair o l. sides q pair l (order q) refl (sound.total q (listed_within g.pairs q pair l));
+    either = λ q pair o l. sides q pair l (order q) refl (sound.total q (slice_get_within g.pairs q pair l));
   }
     where
       sides : (q : ℕ) (pair : Pair) → slice_get g.pairs q ≡ Some pair → (o : Option Side) → order q ≡ o → IsSome o → ObeysSide x s pair Lower ⊎ ObeysSide x s pair Higher

@@ -8,7 +8,7 @@ use Rattle.fleet_base.specs.declared.order.Pair.{Pair}
 use Rattle.fleet_base.specs.declared.order.PairId.{PairId}
 use Rattle.fleet_base.specs.declared.order.Side.{Side}
 use Rattle.fleet_base.specs.declared.order.Side.TheVariants.{Lower, Higher}
-use Rattle.fleet_base.specs.Order.{Graph, IsVisit, IsCycle, order_of, next_visit, first_visit, second_visit}
+use Rattle.fleet_base.specs.Order.{Graph, IsVisit, IsCycle, order_of, next_visit, first_visit, second_visit, other_side}
 use Rattle.fleet_base.specs.State.{FleetState}
 use Rattle.fleet_base.specs.Open.{is_open}
 use Rattle.fleet_base.specs.Rules.{IsFleetState}
@@ -16,10 +16,10 @@ use Rattle.fleet_base.specs.Schedule.{IsLawful, ObeysEdge, ObeysSide, Obeys, end
 use Rattle.fleet_base.proofs.Members.{head_in, in_one, in_none}
 use Rattle.cert_tree.specs.declared.node.Node.{Node}
 use Rattle.cert_tree.specs.declared.node.Node.TheVariants.{Branch, Force, Cyclic, Bound, OpenLeaf}
-use Rattle.cert_check.specs.Decisions.{Decision, side_on, order_on, other}
+use Rattle.cert_check.specs.Decisions.{Decision, side_on, order_on}
 use Rattle.cert_check.specs.Trees.{Tree, EachNode, IsRight, IsClosing, IsOptimalTree, IsSpent, IsSpentTree, branch_to, force_to, left_costs}
 use Rattle.cert_check.specs.Trees.Tree.{Fork, Forced, Refuted, Bounded, Left}
-use Rattle.cert_check.proofs.EdgeLaws.{open_listed}
+use Rattle.fleet_base.proofs.OpenPairs.{open_listed}
 use Rattle.cert_check.specs.Orders.{KeepsClosed, ObeysPairs}
 use Rattle.cert_check.proofs.Lawful.{never_round}
 use Rattle.cert_check.proofs.PathBound.{total_below}
@@ -65,7 +65,7 @@ module _ (g : Graph) (x : FleetState) (state : IsFleetState g x) (s : Visit → 
 
   -- so it obeys the side that a cycle forces
   forced : (way : List Decision) (q : PairId) (side : Side) (cycle : List PairId) (pair : Pair) → slice_get g.pairs q.0 ≡ Some pair → ObeysSide x s pair Lower ⊎ ObeysSide x s pair Higher
-      → ObeysPairs g x (order_on g x way) s → IsCycle g (order_on g x (force_to q (other side) ∷ way)) cycle → ObeysSide x s pair side
+      → ObeysPairs g x (order_on g x way) s → IsCycle g (order_on g x (force_to q (other_side side) ∷ way)) cycle → ObeysSide x s pair side
   forced way q Lower cycle pair l (inl o) obeys c = o
   forced way q Lower cycle pair l (inr o) obeys c = absurd (no_cycle_on (force_to q Higher ∷ way) cycle (one_more way (force_to q Higher) pair l o obeys) c)
   forced way q Higher cycle pair l (inr o) obeys c = o

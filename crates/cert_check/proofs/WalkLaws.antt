@@ -8,8 +8,8 @@ use Rattle.fleet_base.specs.declared.order.PairId.{PairId}
 use Rattle.fleet_base.specs.declared.order.Side.{Side}
 use Rattle.fleet_base.specs.Order.{Graph, last_in}
 use Rattle.fleet_base.specs.State.{FleetState, duration_of}
-use Rattle.cert_check.specs.declared.edges.Edge.{Edge}
-use Rattle.cert_check.specs.Paths.{edge_in, leads_on, travel, walk_end}
+use Rattle.fleet_base.specs.declared.order.Edge.{Edge}
+use Rattle.fleet_base.specs.Paths.{edge_in, leads_on, travel, walk_end}
 
 abbrev none : PairId
 none = record { 0 = 0 }

@@ -1,29 +1,19 @@
--- Edges as they are computed, and how long the moves along a robot last.
-use Rattle.std.proofs.Common.{ℕ, suc, zero, ◌≡◌, ◌+◌, ◌-◌, ◌≤◌, [], Some, Option, true, false, Bool, refl, sym, ap, ◌∙◌, subst, arith}
-use Rattle.std.specs.Prelude.{option_and_then, sum_by}
-use Rattle.std.specs.Option.{option_map}
+-- Sums with one more number, how long the moves along a robot last, and where edges begin.
+use Rattle.std.proofs.Common.{ℕ, suc, zero, ◌≡◌, ◌+◌, ◌-◌, ◌≤◌, [], Option, true, false, Bool, refl, sym, ap, subst, arith}
+use Rattle.std.specs.Prelude.{sum_by}
 use Rattle.std.specs.List.{range_with_len}
 use Rattle.std.proofs.lemmas.List.Sums.{sum_by-cons}
 use Rattle.fleet_base.specs.declared.geometry.Visit.{Visit}
-use Rattle.fleet_base.specs.declared.order.Pair.{Pair}
 use Rattle.fleet_base.specs.declared.order.Side.{Side}
-use Rattle.fleet_base.specs.Order.{Graph, IsVisit, HasEdge, next_visit, first_visit, second_visit}
+use Rattle.fleet_base.specs.Order.{Graph, IsVisit, HasEdge}
 use Rattle.fleet_base.specs.State.{FleetState, duration_of}
 use Rattle.fleet_base.specs.Open.{is_open}
 use Rattle.fleet_base.specs.Rules.{IsFleetState}
-use Rattle.cert_check.specs.declared.edges.Edge.{Edge}
-use Rattle.cert_check.specs.Paths.{edge_in, travel}
+use Rattle.fleet_base.specs.Paths.{travel}
+use Rattle.fleet_base.proofs.OpenPairs.{open_goes_on}
 use Rattle.cert_check.specs.Orders.{KeepsClosed}
-use Rattle.cert_check.proofs.EdgeLaws.{visit, open_goes_on}
+use Rattle.cert_check.proofs.EdgeLaws.{visit}
 use Rattle.cert_check.proofs.Lawful.{edge_of_state}
-
--- the edge of a pair is the one that is computed
-pub edge_is : (g : Graph) (order : ℕ → Option Side) (q : ℕ) (u v : Visit) → HasEdge g order q u v → edge_in g order q ≡ Some (record { tail = u; head = v })
-edge_is g order q u v e =
-    ap (λ (o : Option Pair). option_and_then (λ (pair : Pair). option_map (λ (side : Side). let f : Edge = record { tail = next_visit (first_visit pair side); head = second_visit pair side } in f) (order q)) o) e.listed
-    ∙ ap (λ (o : Option Side). option_map (λ (side : Side). let f : Edge = record { tail = next_visit (first_visit e.pair side); head = second_visit e.pair side } in f) o) e.sided
-    ∙ ap (λ (w : Visit). Some (let f : Edge = record { tail = w; head = second_visit e.pair e.side } in f)) (sym e.tail)
-    ∙ ap (λ (w : Visit). Some (let f : Edge = record { tail = u; head = w } in f)) (sym e.head)
 
 -- one more number at the end of a range
 pub sum_more : (f : ℕ → ℕ) (n a : ℕ) → sum_by f (range_with_len a (suc n)) ≡ sum_by f (range_with_len a n) + f (a + n)
@@ -35,9 +25,7 @@ sum_more f (suc n) a =
     let e = ap f (let z : a + 1 + n ≡ a + suc n = omega arith in z) in
     omega arith
 
-pub travel_none : (x : FleetState) (v : Visit) → travel x v v.index ≡ 0
-travel_none x v = ap (λ m. sum_by (λ r. duration_of x (visit v.robot r)) (range_with_len (v.index + 1) m)) (let z : (v.index + 1) - (v.index + 1) ≡ 0 = omega arith in z)
-
+-- and one more move along a robot
 pub travel_more : (x : FleetState) (v : Visit) (k : ℕ) → v.index ≤ k → travel x v (k + 1) ≡ travel x v k + duration_of x (visit v.robot (k + 1))
 travel_more x v k le =
     let long = ap (λ m. sum_by (λ r. duration_of x (visit v.robot r)) (range_with_len (v.index + 1) m)) (let z : (k + 1 + 1) - (v.index + 1) ≡ suc (k - v.index) = omega arith in z) in

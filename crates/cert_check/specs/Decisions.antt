@@ -1,7 +1,6 @@
 -- Decisions on the way to a node, and the order that they give.
 use Rattle.std.specs.Prelude.{ℕ, ◌≡◌, ◌==◌, List, [], ◌∷◌, Bool, true, Option, Some, None, if◌then◌else◌}
 use Rattle.fleet_base.specs.declared.order.Side.{Side}
-use Rattle.fleet_base.specs.declared.order.Side.TheVariants.{Lower, Higher}
 use Rattle.fleet_base.specs.Order.{Graph}
 use Rattle.fleet_base.specs.State.{FleetState}
 use Rattle.fleet_base.specs.Open.{is_open}
@@ -25,8 +24,3 @@ order_on g x way = decision_order g x (side_on way)
 -- the pair is open, and has no decision yet
 abbrev pub IsFree : Graph → FleetState → List Decision → ℕ → Type 0
 IsFree g x way q = (is_open g x q ≡ true) × (side_on way q ≡ None)
-
--- the other side
-abbrev pub other : Side → Side
-other Lower = Higher
-other Higher = Lower

@@ -9,8 +9,8 @@ use Rattle.plan_graph.specs.Limits.{visit_count}
 use Rattle.fleet_base.specs.Order.{Graph, IsVisit, IsSorted, last_in}
 use Rattle.fleet_base.specs.State.{FleetState, HasArrived, arrived_count, released_count, arrival_tick_of, release_tick_of, duration_of}
 use Rattle.fleet_base.specs.Schedule.{IsSchedule, Obeys}
-use Rattle.cert_check.specs.declared.edges.Edge.{Edge}
-use Rattle.cert_check.specs.Paths.{edge_in}
+use Rattle.fleet_base.specs.declared.order.Edge.{Edge}
+use Rattle.fleet_base.specs.Paths.{edge_in}
 
 -- the least tick of a visit that has not arrived, all edges apart
 abbrev pub floor : FleetState → Visit → ℕ

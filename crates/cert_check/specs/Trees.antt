@@ -5,13 +5,13 @@ use Rattle.fleet_base.specs.declared.order.Pair.{Pair}
 use Rattle.fleet_base.specs.declared.order.PairId.{PairId}
 use Rattle.fleet_base.specs.declared.order.Side.{Side}
 use Rattle.fleet_base.specs.declared.order.Side.TheVariants.{Lower, Higher}
-use Rattle.fleet_base.specs.Order.{Graph, IsCycle, IsSorted}
+use Rattle.fleet_base.specs.Order.{Graph, IsCycle, IsSorted, other_side}
 use Rattle.fleet_base.specs.State.{FleetState}
 use Rattle.fleet_base.specs.Schedule.{IsLeastSchedule, IsCost, ObeysSide, end_sum_of}
 use Rattle.cert_tree.specs.declared.node.CertPath.{CertPath}
 use Rattle.cert_tree.specs.declared.node.Node.{Node}
 use Rattle.cert_tree.specs.declared.node.Node.TheVariants.{Branch, Force, Cyclic, Bound, OpenLeaf}
-use Rattle.cert_check.specs.Decisions.{Decision, order_on, IsFree, other}
+use Rattle.cert_check.specs.Decisions.{Decision, order_on, IsFree}
 use Rattle.cert_check.specs.Paths.{ArePaths, total_length}
 
 -- a tree of nodes
@@ -52,7 +52,7 @@ IsBound g x way cost paths = ArePaths g x (order_on g x way) paths × (cost ≤ 
 -- what a node has to meet in every tree for a cost
 abbrev pub IsRight : Graph → FleetState → ℕ → List Decision → Node → Type 0
 IsRight g x cost way (Branch q) = IsFree g x way q.0
-IsRight g x cost way (Force q side cycle) = IsFree g x way q.0 × IsCycle g (order_on g x (force_to q (other side) ∷ way)) cycle
+IsRight g x cost way (Force q side cycle) = IsFree g x way q.0 × IsCycle g (order_on g x (force_to q (other_side side) ∷ way)) cycle
 IsRight g x cost way (Cyclic cycle) = IsCycle g (order_on g x way) cycle
 IsRight g x cost way (Bound paths) = IsBound g x way cost paths
 IsRight g x cost way (OpenLeaf least) = Unit {0}

@@ -1,11 +1,11 @@
 -- The verdict on a list of nodes: it is a tree of its kind, or its first node that fails, with the first word that fits there.
 use Rattle.std.specs.Prelude.{ℕ, ◌≡◌, ◌≢◌, ◌⊎◌, ◌+◌, ◌<◌, ◌≤◌, List, [], ◌∷◌, length, take, slice_get, Some, Contains, All}
 use Rattle.fleet_base.specs.declared.order.Side.TheVariants.{Lower, Higher}
-use Rattle.fleet_base.specs.Order.{Graph, IsCycle}
+use Rattle.fleet_base.specs.Order.{Graph, IsCycle, other_side}
 use Rattle.fleet_base.specs.State.{FleetState}
 use Rattle.cert_tree.specs.declared.node.Node.{Node}
 use Rattle.cert_tree.specs.declared.node.Node.TheVariants.{Branch, Force, Cyclic, Bound, OpenLeaf}
-use Rattle.cert_check.specs.Decisions.{Decision, order_on, IsFree, other}
+use Rattle.cert_check.specs.Decisions.{Decision, order_on, IsFree}
 use Rattle.cert_check.specs.Paths.{ArePaths, total_length}
 use Rattle.cert_check.specs.Trees.{Tree, nodes_of, branch_to, force_to, IsOptimalTree, IsSpentTree, IsNeeded, IsLeftOpen}
 use Rattle.cert_check.specs.declared.verdict.NoWhy.{NoWhy}
@@ -36,7 +36,7 @@ ways_at nodes k = ways_left (take k nodes) ([] ∷ [])
 abbrev pub IsFault : Graph → FleetState → ℕ → List Decision → Node → NoWhy → Type 0
 IsFault g x cost way (Branch q) Pair = ¬ IsFree g x way q.0
 IsFault g x cost way (Force q side cycle) Pair = ¬ IsFree g x way q.0
-IsFault g x cost way (Force q side cycle) Cycle = ¬ IsCycle g (order_on g x (force_to q (other side) ∷ way)) cycle
+IsFault g x cost way (Force q side cycle) Cycle = ¬ IsCycle g (order_on g x (force_to q (other_side side) ∷ way)) cycle
 IsFault g x cost way (Cyclic cycle) Cycle = ¬ IsCycle g (order_on g x way) cycle
 IsFault g x cost way (Bound paths) Path = ¬ ArePaths g x (order_on g x way) paths
 IsFault g x cost way (Bound paths) Sum = total_length g x (order_on g x way) paths < cost

@@ -1,38 +1,12 @@
 ghost use Rattle.std.specs.Prelude.{◌≡◌, ◌<◌, ◌+◌, ◌^◌, ◌↔◌, None, length, true, IsTrue, IfSome};
 ghost use Rattle.fleet_base.specs.Order.{IsVisit, next_visit, first_visit, second_visit};
-ghost use Rattle.fleet_base.specs.Open.{is_open, is_settled};
+ghost use Rattle.fleet_base.specs.Open.{is_open};
 ghost use Rattle.fleet_base.specs.Rules.{IsFleetState};
-ghost use Rattle.cert_check.specs.Paths.{edge_in, leads_on};
+ghost use Rattle.fleet_base.specs.Paths.{edge_in, leads_on};
 ghost use Rattle.cert_check.specs.Sides.{decided, order_by, HasSides};
 
-use fleet_base::{Fleet, Pair, PairId, Side, Visit};
-use plan_graph::PlanGraph;
-
-/// The edge of a pair: from the first robot's following visit to the other robot's visit.
-#[derive(Clone, Copy)]
-pub(crate) struct Edge {
-    pub(crate) tail: Visit,
-    pub(crate) head: Visit,
-}
-
-/// Whether a visit is released, or its robot's last.
-fn settled(graph: &PlanGraph, fleet: &Fleet, v: Visit) -> bool
-    requires state { IsFleetState graph.now fleet.now }
-    requires there { IsVisit graph.now v }
-    ensures { result ≡ is_settled graph.now fleet.now v }
-{
-    v.index <= fleet.released(v.robot) || v.index == graph.last(v.robot)
-}
-
-/// Whether a pair is open.
-pub(crate) fn open(graph: &PlanGraph, fleet: &Fleet, q: PairId) -> bool
-    requires state { IsFleetState graph.now fleet.now }
-    requires pair { q.0 < length graph.now.pairs }
-    ensures { result ≡ is_open graph.now fleet.now q.0 }
-{
-    let pair = graph.pair(q);
-    !settled(graph, fleet, pair.lower) && !settled(graph, fleet, pair.higher)
-}
+use fleet_base::{Edge, Fleet, Pair, PairId, Side, Visit};
+use plan_graph::{PlanGraph, is_open};
 
 /// Whether a pair is there, open and undecided.
 pub(crate) fn free(graph: &PlanGraph, fleet: &Fleet, sides: &[Option<Side>], q: PairId) -> bool
@@ -40,7 +14,7 @@ pub(crate) fn free(graph: &PlanGraph, fleet: &Fleet, sides: &[Option<Side>], q: 
     requires sides { HasSides graph.now sides.now }
     ensures { IsTrue result ↔ (is_open graph.now fleet.now q.0 ≡ true) × (decided sides.now q.0 ≡ None) }
 {
-    q.0 < graph.pair_count() && sides[q.0 as usize].is_none() && open(graph, fleet, q)
+    q.0 < graph.pair_count() && sides[q.0 as usize].is_none() && is_open(graph, fleet, q)
 }
 
 /// The side of a pair, if it is closed or decided.
@@ -50,7 +24,7 @@ fn side(graph: &PlanGraph, fleet: &Fleet, sides: &[Option<Side>], q: PairId) -> 
     requires pair { q.0 < length graph.now.pairs }
     ensures { result ≡ order_by graph.now fleet.now sides.now q.0 }
 {
-    if open(graph, fleet, q) {
+    if is_open(graph, fleet, q) {
         sides[q.0 as usize]
     } else {
         Some(fleet.side(q))

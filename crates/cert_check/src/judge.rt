@@ -7,7 +7,7 @@ ghost use Rattle.fleet_base.specs.Schedule.{ObeysSide};
 ghost use Rattle.cert_tree.specs.declared.node.Node.TheVariants.{Branch, Force, Cyclic, Bound, OpenLeaf};
 ghost use Rattle.cert_tree.specs.CertText.{IsWritten};
 ghost use Rattle.cert_check.specs.declared.judge.Kind.TheVariants as kind;
-ghost use Rattle.cert_check.specs.Decisions.{Decision, other};
+ghost use Rattle.cert_check.specs.Decisions.{Decision};
 ghost use Rattle.cert_check.specs.Sides.{decided, HasSides};
 ghost use Rattle.cert_check.specs.Trees.{IsNeeded, IsLeftOpen};
 ghost use Rattle.cert_check.specs.Judging.{IsJudged, Gives};
@@ -107,7 +107,7 @@ fn judge_force(
         return Some(NoWhy::Pair);
     }
     let place = pair.0 as usize;
-    sides[place] = Some(other(side));
+    sides[place] = Some(side.other());
     let refuted = is_cycle(graph, fleet, sides, cycle);
     sides[place] = None;
     if refuted { None } else { Some(NoWhy::Cycle) }
@@ -268,13 +268,4 @@ fn obeys(graph: &PlanGraph, fleet: &Fleet, ticks: &Ticks, pair: Pair, side: Side
     };
     fleet.arrival_tick(second).is_some()
         || tick_of(graph, ticks, tail) + duration(fleet, second) <= tick_of(graph, ticks, second)
-}
-
-fn other(side: Side) -> Side
-    ensures { result ≡ other side }
-{
-    match side {
-        Side::Lower => Side::Higher,
-        Side::Higher => Side::Lower,
-    }
 }

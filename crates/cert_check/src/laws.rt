@@ -12,7 +12,7 @@ ghost use Rattle.plan_graph.specs.Limits.{visit_count};
 ghost use Rattle.cert_tree.specs.declared.node.Node.{Node};
 ghost use Rattle.cert_check.specs.declared.verdict.Verdict.{Verdict};
 ghost use Rattle.cert_check.specs.Orders.{KeepsClosed, ObeysPairs};
-ghost use Rattle.cert_check.specs.Paths.{path_length};
+ghost use Rattle.fleet_base.specs.Paths.{path_length};
 ghost use Rattle.cert_check.specs.Trees.{Tree, IsOptimalTree, IsSpentTree};
 ghost use Rattle.cert_check.specs.Verdicts.{OptimalVerdict, SpentVerdict};
 ghost use Rattle.cert_check.specs.Rounds.{rounds};

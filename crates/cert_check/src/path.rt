@@ -3,7 +3,8 @@ ghost use Rattle.std.specs.List.Sorted.{IsStrictlyIncreasing};
 ghost use Rattle.fleet_base.specs.Order.{IsVisit, last_in};
 ghost use Rattle.fleet_base.specs.State.{arrived_count, duration_of};
 ghost use Rattle.fleet_base.specs.Rules.{IsFleetState};
-ghost use Rattle.cert_check.specs.Paths.{travel, walk_end, coming, start_tick, has_finished, finished_length, start_robot, path_length, total_length, ArePaths};
+ghost use Rattle.fleet_base.specs.Paths.{travel, walk_end, coming, start_tick, has_finished, finished_length, start_robot, path_length};
+ghost use Rattle.cert_check.specs.Paths.{total_length, ArePaths};
 ghost use Rattle.cert_check.specs.Sides.{order_by, HasSides};
 ghost use Rattle.cert_check.specs.Judging.{TakesPath};
 

@@ -5,7 +5,7 @@ ghost use Rattle.fleet_base.specs.Order.{IsVisit, IsSorted, IsCyclic, last_in};
 ghost use Rattle.fleet_base.specs.State.{duration_of, arrived_count};
 ghost use Rattle.fleet_base.specs.Rules.{IsFleetState};
 ghost use Rattle.fleet_base.specs.Schedule.{IsLeastSchedule, end_sum_of};
-ghost use Rattle.cert_check.specs.Paths.{edge_in};
+ghost use Rattle.fleet_base.specs.Paths.{edge_in};
 ghost use Rattle.cert_check.specs.Sides.{order_by, HasSides};
 ghost use Rattle.cert_check.specs.Rounds.{floor, edge_bound, raised, ticks_of, HasTicks, IsLow, IsPast, IsBelow, HasRounds, IsSettled, KeepsRows, Raises, RaisesAll};
 

@@ -1,6 +1,6 @@
 -- The sum so far is that of the moves to the visit at hand.
 use Rattle.std.proofs.Common.{◌≡◌, ◌<◌, ◌≤◌, ◌-◌, ◌*◌}
-use Rattle.cert_check.specs.Paths.{travel}
+use Rattle.fleet_base.specs.Paths.{travel}
 use Rattle.cert_check.proofs.path.moves.Given as goal
 
 abbrev pub invariant-loop-index : goal.invariant-loop-index
