@@ -12,7 +12,7 @@ use Rattle.fleet_base.specs.Order.{Graph, IsVisit, next_visit, first_visit, seco
 use Rattle.fleet_base.specs.State.{FleetState}
 use Rattle.fleet_base.specs.Open.{is_open}
 use Rattle.fleet_base.specs.Rules.{IsFleetState}
-use Rattle.fleet_base.specs.Schedule.{IsLeastSchedule, IsCost, ObeysSide, end_sum_of}
+use Rattle.fleet_base.specs.Schedule.{IsLeastSchedule, IsCost, ObeysEdge, ObeysSide, end_sum_of}
 use Rattle.cert_tree.specs.declared.node.CertPath.{CertPath}
 use Rattle.cert_tree.specs.declared.node.Node.TheVariants.{Branch, Force, Cyclic, Bound, OpenLeaf}
 use Rattle.cert_check.specs.declared.judge.Kind.{Kind}
@@ -36,6 +36,12 @@ use Rattle.cert_check.proofs.SideLaws.{same_order, keeps, open_within}
 
 only_value : (p r : PairOf) → Some p ≡ Some r → p ≡ r
 only_value p r e = cc
+
+-- ticks obey a side of a pair where they obey its edge
+pub sided : (x : FleetState) (s : Visit → ℕ) (pair : PairOf) (d : Side) (u v : Visit) (b : Bool) → u ≡ next_visit (first_visit pair d) → v ≡ second_visit pair d → (IsTrue b → ObeysEdge x s u v) × (ObeysEdge x s u v → IsTrue b) → (IsTrue b → ObeysSide x s pair d) × (ObeysSide x s pair d → IsTrue b)
+sided x s pair d u v b tail head same =
+    subst (λ (w : Visit). (IsTrue b → ObeysEdge x s (next_visit (first_visit pair d)) w) × (ObeysEdge x s (next_visit (first_visit pair d)) w → IsTrue b)) head
+    (subst (λ (w : Visit). (IsTrue b → ObeysEdge x s w v) × (ObeysEdge x s w v → IsTrue b)) tail same)
 
 -- a side that was not decided is again not decided
 pub set_back : (sides : List (Option Side)) (q : ℕ) (s : Side) → decided sides q ≡ None → slice_set (slice_set sides q (Some s)) q None ≡ sides

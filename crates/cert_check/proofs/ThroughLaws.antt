@@ -1,6 +1,7 @@
 -- What a checker finds on its way through the nodes.
-use Rattle.std.proofs.Common.{ℕ, ◌≡◌, ◌+◌, ◌<◌, List, [], ◌∷◌, Some, None, Option, true, false, Bool, refl, sym, ap, ◌∙◌, subst, length, take, reverse, get_or}
+use Rattle.std.proofs.Common.{ℕ, ◌≡◌, ◌+◌, ◌<◌, List, [], ◌∷◌, Some, None, Option, true, false, Bool, sym, ap, ◌∙◌, subst, arith, length, take, reverse, get_or}
 use native.Mathlib.Numerals.{unary_clauses}
+use Rattle.std.proofs.lemmas.List.{take_all}
 use Rattle.std.proofs.lemmas.Option.{slice_get-get_or}
 use Rattle.std.specs.Prelude.{Contains, All, ◌≤◌, slice_get, vec_len}
 use Rattle.fleet_base.specs.declared.order.Side.{Side}
@@ -61,11 +62,7 @@ module _ (g : Graph) (x : FleetState) (cost : ℕ) (k : Kind) (nodes : List Node
   pub ends_early : (n : ℕ) (right : EachListed (MeetsAs g x cost k) (take n nodes) ([] ∷ [])) (w : Way) (b : Bool) → n ≡ length nodes → b ≡ true → NextWay (ways_at nodes n) w b → IsFirstFault (Fits (FailsAs g x cost k) (WholeFailsAs k nodes) nodes) (length nodes) Shape
   ends_early n right w b all e next =
       let ways = subst (λ b. NextWay (ways_at nodes n) w b) e next in
-      fails_early (MeetsAs g x cost k) (FailsAs g x cost k) (WholeFailsAs k nodes) excludes nodes (subst (λ (ns : List Node). EachListed (MeetsAs g x cost k) ns ([] ∷ [])) (ap (λ m. take m nodes) all ∙ whole nodes) right) (λ none. let f = sym ways ∙ ap (λ m. ways_left (take m nodes) ([] ∷ [])) all ∙ ap (λ (ns : List Node). ways_left ns ([] ∷ [])) (whole nodes) ∙ none in cc)
-    where
-      whole : {X : Type 0} (xs : List X) → take (length xs) xs ≡ xs
-      whole [] = refl
-      whole (y ∷ ys) = ap (λ (zs : List _). y ∷ zs) (whole ys)
+      fails_early (MeetsAs g x cost k) (FailsAs g x cost k) (WholeFailsAs k nodes) excludes nodes (subst (λ (ns : List Node). EachListed (MeetsAs g x cost k) ns ([] ∷ [])) (ap (λ m. take m nodes) all ∙ take_all (length nodes) nodes (omega arith)) right) (λ none. let f = sym ways ∙ ap (λ m. ways_left (take m nodes) ([] ∷ [])) all ∙ ap (λ (ns : List Node). ways_left ns ([] ∷ [])) (take_all (length nodes) nodes (omega arith)) ∙ none in cc)
 
   pub decides_free : (w : Way) (node : Node) (way : List Decision) → ((q : ℕ) → decided w.sides.items q ≡ side_on way q) → vec_len w.sides ≡ length g.pairs → MeetsAs g x cost k way node → DecidesFree w node
   decides_free w node way sides has meets = go node (right_of way node meets)

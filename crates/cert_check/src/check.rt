@@ -6,9 +6,8 @@ ghost use Rattle.fleet_base.specs.Schedule.{IsLawful, end_sum_of};
 ghost use Rattle.cert_tree.specs.CertText.{IsWritten};
 ghost use Rattle.cert_check.specs.declared.verdict.Verdict.TheVariants.{Yes};
 ghost use Rattle.cert_check.specs.declared.judge.Kind.TheVariants as kind;
-ghost use Rattle.cert_check.specs.Verdicts.{OptimalVerdict, SpentVerdict};
+ghost use Rattle.cert_check.specs.Verdicts.{OptimalVerdict, SpentVerdict, IsSpentWholeFault};
 ghost use Rattle.cert_check.specs.Judging.{Judges, IsWhole, IsFirstAs, IsWholeRight, lower_of};
-ghost use Rattle.cert_check.specs.Verdicts.{IsSpentWholeFault};
 ghost use Rattle.cert_check.specs.Rooms.{room_for};
 ghost use Rattle.cert_check.specs.Rounds.{HasTicks, KeepsRows};
 
@@ -152,7 +151,7 @@ fn whole_fault(nodes: &[Node], least: u64, budget: u64) -> Option<NoWhy>
     for node in nodes {
         match node {
             Node::Branch { .. } => branches += 1,
-            Node::OpenLeaf { least } => lowest = Some(lower(lowest, *least)),
+            Node::OpenLeaf { least } => lowest = Some(lower_of(lowest, *least)),
             _ => {}
         }
     }
@@ -163,7 +162,7 @@ fn whole_fault(nodes: &[Node], least: u64, budget: u64) -> Option<NoWhy>
 }
 
 /// The smaller one of a number and the least so far.
-fn lower(lowest: Option<u64>, least: u64) -> u64
+fn lower_of(lowest: Option<u64>, least: u64) -> u64
     ensures { result ≡ lower_of lowest least }
 {
     match lowest {

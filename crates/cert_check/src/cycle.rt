@@ -3,7 +3,7 @@ ghost use Rattle.fleet_base.specs.Order.{IsCycle};
 ghost use Rattle.fleet_base.specs.Rules.{IsFleetState};
 ghost use Rattle.cert_check.specs.Sides.{order_by, HasSides};
 
-use crate::edges::{find_edge, leads};
+use crate::edges::{find_edge, leads_on};
 use fleet_base::{Fleet, PairId, Side};
 use plan_graph::PlanGraph;
 
@@ -29,10 +29,10 @@ pub(crate) fn is_cycle(
         let Some(next) = find_edge(graph, fleet, sides, cycle[place]) else {
             return false;
         };
-        if !leads(graph, last.head, next.tail) {
+        if !leads_on(graph, last.head, next.tail) {
             return false;
         }
         last = next;
     }
-    leads(graph, last.head, first.tail)
+    leads_on(graph, last.head, first.tail)
 }

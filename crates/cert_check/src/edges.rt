@@ -9,7 +9,7 @@ use fleet_base::{Edge, Fleet, Pair, PairId, Side, Visit};
 use plan_graph::{PlanGraph, is_open};
 
 /// Whether a pair is there, open and undecided.
-pub(crate) fn free(graph: &PlanGraph, fleet: &Fleet, sides: &[Option<Side>], q: PairId) -> bool
+pub(crate) fn is_free(graph: &PlanGraph, fleet: &Fleet, sides: &[Option<Side>], q: PairId) -> bool
     requires state { IsFleetState graph.now fleet.now }
     requires sides { HasSides graph.now sides.now }
     ensures { IsTrue result ↔ (is_open graph.now fleet.now q.0 ≡ true) × (decided sides.now q.0 ≡ None) }
@@ -55,7 +55,7 @@ pub(crate) fn find_edge(
 }
 
 /// The edge of a pair with this side.
-fn edge_of(graph: &PlanGraph, pair: Pair, side: Side) -> Edge
+pub(crate) fn edge_of(graph: &PlanGraph, pair: Pair, side: Side) -> Edge
     requires lower { IsVisit graph.now pair.lower }
     requires higher { IsVisit graph.now pair.higher }
     ensures tail { result.tail ≡ next_visit (first_visit pair side) }
@@ -74,7 +74,8 @@ fn edge_of(graph: &PlanGraph, pair: Pair, side: Side) -> Edge
     }
 }
 
-fn following(v: Visit) -> Visit
+/// The following visit of the robot.
+pub(crate) fn following(v: Visit) -> Visit
     requires { v.index + 1 < 2 ^ 32 }
     ensures { result ≡ next_visit v }
 {
@@ -85,7 +86,7 @@ fn following(v: Visit) -> Visit
 }
 
 /// Whether a walk that is at a visit can go along its robot to the other visit.
-pub(crate) fn leads(graph: &PlanGraph, at: Visit, to: Visit) -> bool
+pub(crate) fn leads_on(graph: &PlanGraph, at: Visit, to: Visit) -> bool
     requires { to.robot < length graph.now.lasts }
     ensures { result ≡ leads_on graph.now at to }
 {

@@ -1,9 +1,9 @@
 ghost use Rattle.std.specs.Prelude.{◌≡◌, ◌<◌, ◌≤◌, ◌^◌, ◌↔◌, true, None, ℕ, List, IsTrue, All, length, map, slice_get, Some};
 ghost use Rattle.std.specs.List.Sorted.{IsStrictlyIncreasing};
-ghost use Rattle.fleet_base.specs.Order.{IsVisit, next_visit, first_visit, second_visit};
+ghost use Rattle.fleet_base.specs.Order.{IsVisit};
 ghost use Rattle.fleet_base.specs.Open.{is_open};
 ghost use Rattle.fleet_base.specs.Rules.{IsFleetState};
-ghost use Rattle.fleet_base.specs.Schedule.{ObeysSide};
+ghost use Rattle.fleet_base.specs.Schedule.{ObeysEdge};
 ghost use Rattle.cert_tree.specs.declared.node.Node.TheVariants.{Branch, Force, Cyclic, Bound, OpenLeaf};
 ghost use Rattle.cert_tree.specs.CertText.{IsWritten};
 ghost use Rattle.cert_check.specs.declared.judge.Kind.TheVariants as kind;
@@ -15,11 +15,11 @@ ghost use Rattle.cert_check.specs.Rounds.{ticks_of, HasTicks, IsBelow, KeepsRows
 
 use crate::NoWhy;
 use crate::cycle::is_cycle;
-use crate::edges::free;
-use crate::path::{duration, total};
+use crate::edges::{edge_of, is_free};
+use crate::path::{duration, total_length};
 use crate::rounds::{Ticks, end_sum, relax, tick_of};
 use cert_tree::{CertPath, Node};
-use fleet_base::{Fleet, Pair, PairId, Side, Visit};
+use fleet_base::{Edge, Fleet, PairId, Side};
 use plan_graph::PlanGraph;
 
 /// What a tree is judged as.
@@ -78,13 +78,12 @@ fn judge_branch(
     ensures word { IsJudged graph.now fleet.now cost kind sides.now (Branch pair) result }
     ensures rows { KeepsRows ticks.old ticks.new }
 {
-    if !free(graph, fleet, sides, pair) {
+    if !is_free(graph, fleet, sides, pair) {
         return Some(NoWhy::Pair);
     }
     match kind {
-        Kind::Spent { least, .. } if !needed(graph, fleet, cost, least, pair, sides, ticks) => Some(
-            NoWhy::Needed,
-        ),
+        Kind::Spent { least, .. } if !is_needed(graph, fleet, cost, least, pair, sides, ticks) =>
+            Some(NoWhy::Needed),
         _ => None,
     }
 }
@@ -103,7 +102,7 @@ fn judge_force(
     ensures spent { (cost least budget : ℕ) → IsJudged graph.now fleet.now cost (kind.Spent least budget) sides.old (Force pair side cycle.now) result }
     ensures sides { sides.new ≡ sides.old }
 {
-    if !free(graph, fleet, sides, pair) {
+    if !is_free(graph, fleet, sides, pair) {
         return Some(NoWhy::Pair);
     }
     let place = pair.0 as usize;
@@ -144,7 +143,7 @@ fn judge_bound(
     ensures optimal { IsJudged graph.now fleet.now cost kind.Optimal sides.now (Bound paths.now) result }
     ensures spent { (least budget : ℕ) → IsJudged graph.now fleet.now cost (kind.Spent least budget) sides.now (Bound paths.now) result }
 {
-    let Some(total) = total(graph, fleet, sides, paths) else {
+    let Some(total) = total_length(graph, fleet, sides, paths) else {
         return Some(NoWhy::Path);
     };
     let cost = u128::from(cost);
@@ -167,13 +166,13 @@ fn judge_leaf(
     ensures rows { KeepsRows ticks.old ticks.new }
 {
     match kind {
-        Kind::Spent { .. } if left_open(graph, fleet, cost, least, sides, ticks) => None,
+        Kind::Spent { .. } if is_left_open(graph, fleet, cost, least, sides, ticks) => None,
         _ => Some(NoWhy::Leaf),
     }
 }
 
 /// Whether a search had to branch here.
-fn needed(
+fn is_needed(
     graph: &PlanGraph,
     fleet: &Fleet,
     cost: u64,
@@ -200,14 +199,14 @@ fn needed(
         return false;
     }
     let pair = graph.pair(q);
-    if obeys(graph, fleet, ticks, pair, Side::Lower) {
+    if obeys(graph, fleet, ticks, edge_of(graph, pair, Side::Lower)) {
         return false;
     }
-    !obeys(graph, fleet, ticks, pair, Side::Higher)
+    !obeys(graph, fleet, ticks, edge_of(graph, pair, Side::Higher))
 }
 
 /// Whether a leaf may be left open with this number.
-fn left_open(
+fn is_left_open(
     graph: &PlanGraph,
     fleet: &Fleet,
     cost: u64,
@@ -241,31 +240,23 @@ fn has_free(graph: &PlanGraph, fleet: &Fleet, sides: &[Option<Side>]) -> bool
     ensures { IsTrue result ↔ ((q : ℕ) × (is_open graph.now fleet.now q ≡ true) × (decided sides.now q ≡ None)) }
 {
     for number in 0..graph.pair_count() {
-        if free(graph, fleet, sides, PairId(number)) {
+        if is_free(graph, fleet, sides, PairId(number)) {
             return true;
         }
     }
     false
 }
 
-/// Whether ticks obey the edge of an open pair at a side.
-fn obeys(graph: &PlanGraph, fleet: &Fleet, ticks: &Ticks, pair: Pair, side: Side) -> bool
+/// Whether ticks obey an edge.
+fn obeys(graph: &PlanGraph, fleet: &Fleet, ticks: &Ticks, edge: Edge) -> bool
     requires state { IsFleetState graph.now fleet.now }
     requires ticks { HasTicks graph.now ticks.now }
     requires bound { IsBelow (2 ^ 62) (ticks_of ticks.now) }
-    requires tail { IsVisit graph.now (next_visit (first_visit pair side)) }
-    requires head { IsVisit graph.now (second_visit pair side) }
-    ensures { IsTrue result ↔ ObeysSide fleet.now (ticks_of ticks.now) pair side }
+    requires tail { IsVisit graph.now edge.tail }
+    requires head { IsVisit graph.now edge.head }
+    ensures { IsTrue result ↔ ObeysEdge fleet.now (ticks_of ticks.now) edge.tail edge.head }
 {
-    let _within = graph.robots();
-    let (first, second) = match side {
-        Side::Lower => (pair.lower, pair.higher),
-        Side::Higher => (pair.higher, pair.lower),
-    };
-    let tail = Visit {
-        robot: first.robot,
-        index: first.index + 1,
-    };
-    fleet.arrival_tick(second).is_some()
-        || tick_of(graph, ticks, tail) + duration(fleet, second) <= tick_of(graph, ticks, second)
+    let Edge { tail, head } = edge;
+    fleet.arrival_tick(head).is_some()
+        || tick_of(graph, ticks, tail) + duration(fleet, head) <= tick_of(graph, ticks, head)
 }

@@ -7,15 +7,13 @@ ghost use Rattle.fleet_base.specs.Order.{Graph, IsCycle, IsSorted, IsSoundOrder,
 ghost use Rattle.fleet_base.specs.State.{FleetState};
 ghost use Rattle.fleet_base.specs.Open.{is_open};
 ghost use Rattle.fleet_base.specs.Rules.{IsFleetState};
-ghost use Rattle.fleet_base.specs.Schedule.{IsCost, IsLawful, IsLeastSchedule, end_sum_of};
-ghost use Rattle.plan_graph.specs.Limits.{visit_count};
+ghost use Rattle.fleet_base.specs.Schedule.{IsCost, IsLawful, end_sum_of};
 ghost use Rattle.cert_tree.specs.declared.node.Node.{Node};
 ghost use Rattle.cert_check.specs.declared.verdict.Verdict.{Verdict};
 ghost use Rattle.cert_check.specs.Orders.{KeepsClosed, ObeysPairs};
 ghost use Rattle.fleet_base.specs.Paths.{path_length};
 ghost use Rattle.cert_check.specs.Trees.{Tree, IsOptimalTree, IsSpentTree};
 ghost use Rattle.cert_check.specs.Verdicts.{OptimalVerdict, SpentVerdict};
-ghost use Rattle.cert_check.specs.Rounds.{rounds};
 
 /// A lawful schedule does not obey all edges of a cycle.
 pub fn no_lawful_schedule_goes_round()
@@ -56,9 +54,4 @@ pub fn optimal_verdicts_are_one()
 /// And one as a spent tree.
 pub fn spent_verdicts_are_one()
     ensures { (g : Graph) (x : FleetState) (cost least budget : ℕ) (nodes : List Node) (v w : Verdict) → SpentVerdict g x cost least budget nodes v → SpentVerdict g x cost least budget nodes w → v ≡ w }
-{}
-
-/// Where an order has no cycle, as many rounds as there are visits compute its least schedule.
-pub fn rounds_compute_least_schedules()
-    ensures { (g : Graph) (x : FleetState) (order : ℕ → Option Side) (list : List Visit) → IsFleetState g x → KeepsClosed g x order → IsSorted g order list → IsLeastSchedule g x order (rounds g x order (visit_count g)) }
 {}

@@ -8,7 +8,7 @@ ghost use Rattle.cert_check.specs.Paths.{total_length, ArePaths};
 ghost use Rattle.cert_check.specs.Sides.{order_by, HasSides};
 ghost use Rattle.cert_check.specs.Judging.{TakesPath};
 
-use crate::edges::{find_edge, leads};
+use crate::edges::{find_edge, following, leads_on};
 use cert_tree::CertPath;
 use fleet_base::{Fleet, PairId, Side, Visit};
 use plan_graph::PlanGraph;
@@ -35,19 +35,13 @@ fn moves(graph: &PlanGraph, fleet: &Fleet, from: Visit, to: u32) -> u64
     let mut sum = 0;
     for index in from.index..to {
         let robot = from.robot;
-        sum += duration(
-            fleet,
-            Visit {
-                robot,
-                index: index + 1,
-            },
-        );
+        sum += duration(fleet, following(Visit { robot, index }));
     }
     sum
 }
 
 /// Whether a robot has arrived at its last visit.
-fn finished(graph: &PlanGraph, fleet: &Fleet, robot: u32) -> bool
+fn has_finished(graph: &PlanGraph, fleet: &Fleet, robot: u32) -> bool
     requires state { IsFleetState graph.now fleet.now }
     requires robot { robot < length graph.now.lasts }
     ensures { result ≡ has_finished graph.now fleet.now robot }
@@ -65,10 +59,8 @@ fn first_to_come(graph: &PlanGraph, fleet: &Fleet, robot: u32) -> Visit
 {
     let _within = graph.robots();
     let _last = graph.last(robot);
-    Visit {
-        robot,
-        index: fleet.arrived(robot) + 1,
-    }
+    let index = fleet.arrived(robot);
+    following(Visit { robot, index })
 }
 
 /// When the move to the first visit of a robot that has not arrived can end, other robots apart.
@@ -140,7 +132,7 @@ fn walk(
         let Some(next) = find_edge(graph, fleet, sides, *q) else {
             return None;
         };
-        if !leads(graph, at, next.tail) {
+        if !leads_on(graph, at, next.tail) {
             return None;
         }
         let along = moves(graph, fleet, at, next.tail.index);
@@ -168,11 +160,11 @@ fn length_of(
     ensures value { result ≡ path_length graph.now fleet.now (order_by graph.now fleet.now sides.now) robot pairs.now }
     ensures short { IfSome result (λ n. n < 2 ^ 118) }
 {
-    if finished(graph, fleet, robot) {
+    if has_finished(graph, fleet, robot) {
         return finished_length(graph, fleet, robot, pairs);
     }
     let begins = first_robot(graph, fleet, sides, robot, pairs);
-    if finished(graph, fleet, begins) {
+    if has_finished(graph, fleet, begins) {
         return None;
     }
     let from = first_to_come(graph, fleet, begins);
@@ -212,7 +204,7 @@ fn pairs_at(paths: &[CertPath], place: usize, robot: u32) -> (&[PairId], usize)
 }
 
 /// What the lengths of the paths of all robots add up to, if each is one and they name no other robot.
-pub(crate) fn total(
+pub(crate) fn total_length(
     graph: &PlanGraph,
     fleet: &Fleet,
     sides: &[Option<Side>],

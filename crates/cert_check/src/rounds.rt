@@ -120,7 +120,7 @@ fn asked_of(
     if let Some(tick) = fleet.arrival_tick(v) {
         return tick;
     }
-    let mut tick = earliest(fleet, v);
+    let mut tick = earliest_tick(fleet, v);
     if v.index > 0 {
         let duration = duration(fleet, v);
         tick = tick.max(ticks.row(v.robot as usize)[v.index as usize - 1] + duration);
@@ -132,7 +132,7 @@ fn asked_of(
 }
 
 /// The earliest end of the move to a visit, all edges apart.
-fn earliest(fleet: &Fleet, v: Visit) -> u64
+fn earliest_tick(fleet: &Fleet, v: Visit) -> u64
     requires robot { v.robot < length fleet.now.lasts }
     requires index { v.index ≤ slice_index fleet.now.lasts v.robot }
     requires delay { duration_of fleet.now v ≤ 1000001 }

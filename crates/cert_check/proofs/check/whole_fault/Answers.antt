@@ -20,7 +20,7 @@ loop-node-preserved c =
       | in-OpenLeaf w ↦ record {
         branches = omega (arith, w.branches-is, i.branches, b, ap (λ n. branches_in (n ∷ [])) w.in-OpenLeaf.is);
         few = omega (arith, w.branches-is, i.few);
-        lowest = rw w.lowest-is (lowest_same _ (front ++ w.in-OpenLeaf.least ∷ []) (Some w.lower.result) (l ∙ ap (λ n. front ++ left_in (n ∷ [])) w.in-OpenLeaf.is) (lowest_more front c.loop-node.lowest w.in-OpenLeaf.least w.lower.result i.lowest w.lower.ensures));
+        lowest = rw w.lowest-is (lowest_same _ (front ++ w.in-OpenLeaf.least ∷ []) (Some w.lower_of.result) (l ∙ ap (λ n. front ++ left_in (n ∷ [])) w.in-OpenLeaf.is) (lowest_more front c.loop-node.lowest w.in-OpenLeaf.least w.lower_of.result i.lowest w.lower_of.ensures));
       }
       | in_default w ↦ let o = other_node c.node-item.result w.in_default.not-Branch w.in_default.not-OpenLeaf in record {
         branches = omega (arith, w.branches-is, i.branches, b, o.0);

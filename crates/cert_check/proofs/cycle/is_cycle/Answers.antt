@@ -14,9 +14,9 @@ loop-place-init c = start c.args.graph.now (order_by c.args.graph.now c.args.fle
 
 pub loop-place-preserved : goal.loop-place-preserved
 loop-place-preserved c =
-    step c.args.graph.now (order_by c.args.graph.now c.args.fleet.now c.args.sides.now) c.args.cycle.now c.loop-place.place c.loop-place.last c.in-Some-find_edge.next c.loop-place.invariant c.loop-place-test.true (sym c.find_edge-in-loop-place.ensures.value ∙ c.in-Some-find_edge.is) c.in-Some-find_edge.ensures.tail.robot (sym c.leads.ensures ∙ c.if-not-leads.false)
+    step c.args.graph.now (order_by c.args.graph.now c.args.fleet.now c.args.sides.now) c.args.cycle.now c.loop-place.place c.loop-place.last c.in-Some-find_edge.next c.loop-place.invariant c.loop-place-test.true (sym c.find_edge-in-loop-place.ensures.value ∙ c.in-Some-find_edge.is) c.in-Some-find_edge.ensures.tail.robot (sym c.leads_on.ensures ∙ c.if-not-leads_on.false)
 
 pub returns : goal.returns
 returns c =
-    rw c.leads-2.ensures
+    rw c.leads_on-2.ensures
     (closes c.args.graph.now (order_by c.args.graph.now c.args.fleet.now c.args.sides.now) c.args.cycle.now c.loop-place.place c.loop-place.last c.in-Some.first c.loop-place.invariant c.loop-place-test.false (sym c.find_edge.ensures.value ∙ c.in-Some.is) c.in-Some.ensures.tail.robot)

@@ -8,4 +8,4 @@ loop-q-init c = begun c.args.graph.now c.args.fleet.now (order_by c.args.graph.n
 
 pub loop-q-preserved : goal.loop-q-preserved
 loop-q-preserved c =
-    goes_on c.args.graph.now c.args.fleet.now (order_by c.args.graph.now c.args.fleet.now c.args.sides.now) c.args.robot c.args.from c.args.start c.args.pairs.now c.loop-q.q-index c.loop-q.at c.loop-q.tick c.loop-q.invariant c.in-Some.next c.moves-along.result c.duration-across.result _ c.loop-q-test.true (sym c.find_edge.ensures.value ∙ c.in-Some.is) (sym c.leads.ensures ∙ c.if-not-leads.false) c.moves-along.ensures.value c.duration-across.ensures (omega arith) (omega (arith, c.moves-along.ensures.short, c.duration-across.ensures)) c.in-Some.ensures.head.robot
+    goes_on c.args.graph.now c.args.fleet.now (order_by c.args.graph.now c.args.fleet.now c.args.sides.now) c.args.robot c.args.from c.args.start c.args.pairs.now c.loop-q.q-index c.loop-q.at c.loop-q.tick c.loop-q.invariant c.in-Some.next c.moves-along.result c.duration-across.result _ c.loop-q-test.true (sym c.find_edge.ensures.value ∙ c.in-Some.is) (sym c.leads_on.ensures ∙ c.if-not-leads_on.false) c.moves-along.ensures.value c.duration-across.ensures (omega arith) (omega (arith, c.moves-along.ensures.short, c.duration-across.ensures)) c.in-Some.ensures.head.robot

@@ -1,7 +1,7 @@
 use Rattle.std.proofs.Common.{sym, ◌∙◌, arith}
 use Rattle.cert_check.specs.Sides.{order_by}
 use Rattle.cert_check.proofs.PathLaws.{no_length, total_more, all_taken, not_all_taken}
-use Rattle.cert_check.proofs.path.total.Goals as goal
+use Rattle.cert_check.proofs.path.total_length.Goals as goal
 
 pub returns-in_default-clause-none : goal.returns-in_default-clause-none
 returns-in_default-clause-none c =

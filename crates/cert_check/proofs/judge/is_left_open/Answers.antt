@@ -3,7 +3,7 @@ use Rattle.std.proofs.lemmas.Bool.{false≢true}
 use Rattle.cert_check.proofs.RoundLaws.{has_ticks_kept}
 use Rattle.cert_check.specs.Rounds.{ticks_of}
 use Rattle.cert_check.proofs.JudgeLaws.{cyclic_not_left, left_is, left_sum, left_free}
-use Rattle.cert_check.proofs.judge.left_open.Goals as goal
+use Rattle.cert_check.proofs.judge.is_left_open.Goals as goal
 
 pub returns-then-not-relax-clause-left : goal.returns-then-not-relax-clause-left
 returns-then-not-relax-clause-left c = λ way gives. (λ t. absurd (false≢true t), λ n. absurd (cyclic_not_left c.args.graph.now c.args.fleet.now c.args.sides.now (c.relax.ensures.cyclic c.if-not-relax.true) c.args.cost c.args.least way gives n))
