@@ -115,9 +115,9 @@ module _ (g : Graph) (x : FleetState) (cost : ℕ) (way : List Decision) where
   leaf_low_spent least v w lt f = omega (arith, lt)
 
 -- what is said of each kind is said of the one at hand
-pub of_kind : (P : Kind → Type 0) → P kind.Optimal → ((least budget : ℕ) → P (kind.Spent least budget)) → (k : Kind) → P k
+pub of_kind : (P : Kind → Type 0) → P kind.Optimal → ((least : ℕ) → P (kind.Spent least)) → (k : Kind) → P k
 of_kind P a b kind.Optimal = a
-of_kind P a b (kind.Spent least budget) = b least budget
+of_kind P a b (kind.Spent least) = b least
 
 module _ (g : Graph) (x : FleetState) (sides : List (Option Side)) where
   module _ (way : List Decision) (gives : Gives way sides) where
@@ -139,51 +139,51 @@ module _ (g : Graph) (x : FleetState) (sides : List (Option Side)) where
     where
       go : (b : Bool) → (b ≡ true → IsCycle g (order_by g x sides) cycle) × (IsCycle g (order_by g x sides) cycle → b ≡ true) → (k : Kind) → Judges (MeetsAs g x cost k way (Cyclic cycle)) (FailsAs g x cost k way (Cyclic cycle)) (cond b None (Some Cycle))
       go true t kind.Optimal = (on way gives (λ o. IsCycle g o cycle) (t.0 refl), tt)
-      go true t (kind.Spent least budget) = (on way gives (λ o. IsCycle g o cycle) (t.0 refl), tt)
+      go true t (kind.Spent least) = (on way gives (λ o. IsCycle g o cycle) (t.0 refl), tt)
       go false t kind.Optimal = (λ c. (let z = t.1 (by way gives (λ o. IsCycle g o cycle) c) in cc), λ w lt f. cyclic_low g x cost way cycle w lt f)
-      go false t (kind.Spent least budget) = (λ c. (let z = t.1 (by way gives (λ o. IsCycle g o cycle) c) in cc), λ w lt f. cyclic_low g x cost way cycle w lt f)
+      go false t (kind.Spent least) = (λ c. (let z = t.1 (by way gives (λ o. IsCycle g o cycle) c) in cc), λ w lt f. cyclic_low g x cost way cycle w lt f)
 
   -- a Bound
   pub bound_no_path : (paths : List CertPath) → (ArePaths g x (order_by g x sides) paths → ⊥) → (cost : ℕ) (k : Kind) → IsJudged g x cost k sides (Bound paths) (Some Path)
   bound_no_path paths none cost kind.Optimal way gives = (λ a. none (by way gives (λ o. ArePaths g x o paths) a), λ w lt f. bound_low g x cost way paths w lt f)
-  bound_no_path paths none cost (kind.Spent least budget) way gives = (λ a. none (by way gives (λ o. ArePaths g x o paths) a), λ w lt f. bound_low g x cost way paths w lt f)
+  bound_no_path paths none cost (kind.Spent least) way gives = (λ a. none (by way gives (λ o. ArePaths g x o paths) a), λ w lt f. bound_low g x cost way paths w lt f)
 
   pub bound_short : (paths : List CertPath) (total cost : ℕ) → ArePaths g x (order_by g x sides) paths → total ≡ total_length g x (order_by g x sides) paths → total < cost → (k : Kind) → IsJudged g x cost k sides (Bound paths) (Some Sum)
   bound_short paths total cost are e lt kind.Optimal way gives = (on way gives (λ o. total_length g x o paths < cost) (omega (arith, e, lt)), λ w l f. bound_mid g x cost way paths (on way gives (λ o. ArePaths g x o paths) are) w l f)
-  bound_short paths total cost are e lt (kind.Spent least budget) way gives = (on way gives (λ o. total_length g x o paths < cost) (omega (arith, e, lt)), λ w l f. bound_mid g x cost way paths (on way gives (λ o. ArePaths g x o paths) are) w l f)
+  bound_short paths total cost are e lt (kind.Spent least) way gives = (on way gives (λ o. total_length g x o paths < cost) (omega (arith, e, lt)), λ w l f. bound_mid g x cost way paths (on way gives (λ o. ArePaths g x o paths) are) w l f)
 
   pub bound_long : (paths : List CertPath) (total cost : ℕ) → ArePaths g x (order_by g x sides) paths → total ≡ total_length g x (order_by g x sides) paths → cost ≤ total → (k : Kind) → IsJudged g x cost k sides (Bound paths) None
   bound_long paths total cost are e le kind.Optimal way gives = ((on way gives (λ o. ArePaths g x o paths) are, on way gives (λ o. cost ≤ total_length g x o paths) (omega (arith, e, le))), tt)
-  bound_long paths total cost are e le (kind.Spent least budget) way gives = ((on way gives (λ o. ArePaths g x o paths) are, on way gives (λ o. cost ≤ total_length g x o paths) (omega (arith, e, le))), tt)
+  bound_long paths total cost are e le (kind.Spent least) way gives = ((on way gives (λ o. ArePaths g x o paths) are, on way gives (λ o. cost ≤ total_length g x o paths) (omega (arith, e, le))), tt)
 
   -- a Branch
   pub branch_not_free : (q : PairId) → ((is_open g x q.0 ≡ true) × (decided sides q.0 ≡ None) → ⊥) → (cost : ℕ) (k : Kind) → IsJudged g x cost k sides (Branch q) (Some Pair)
   branch_not_free q none cost kind.Optimal way gives = (λ f. none (free_by way gives q.0 f), λ w lt f. branch_low g x cost way q w lt f)
-  branch_not_free q none cost (kind.Spent least budget) way gives = (λ f. none (free_by way gives q.0 f), λ w lt f. branch_low_spent g x cost way least q w lt f)
+  branch_not_free q none cost (kind.Spent least) way gives = (λ f. none (free_by way gives q.0 f), λ w lt f. branch_low_spent g x cost way least q w lt f)
 
   pub branch_optimal : (q : PairId) → (is_open g x q.0 ≡ true) × (decided sides q.0 ≡ None) → (cost : ℕ) → IsJudged g x cost kind.Optimal sides (Branch q) None
   branch_optimal q free cost way gives = (free_on way gives q.0 free, tt)
 
-  pub branch_needed : (q : PairId) → (is_open g x q.0 ≡ true) × (decided sides q.0 ≡ None) → (cost least budget : ℕ) → ((way : List Decision) → Gives way sides → IsNeeded g x cost least way q.0) → IsJudged g x cost (kind.Spent least budget) sides (Branch q) None
-  branch_needed q free cost least budget needed way gives = (free_on way gives q.0 free, needed way gives)
+  pub branch_needed : (q : PairId) → (is_open g x q.0 ≡ true) × (decided sides q.0 ≡ None) → (cost least : ℕ) → ((way : List Decision) → Gives way sides → IsNeeded g x cost least way q.0) → IsJudged g x cost (kind.Spent least) sides (Branch q) None
+  branch_needed q free cost least needed way gives = (free_on way gives q.0 free, needed way gives)
 
-  pub branch_not_needed : (q : PairId) → (is_open g x q.0 ≡ true) × (decided sides q.0 ≡ None) → (cost least budget : ℕ) → ((way : List Decision) → Gives way sides → IsNeeded g x cost least way q.0 → ⊥) → IsJudged g x cost (kind.Spent least budget) sides (Branch q) (Some Needed)
-  branch_not_needed q free cost least budget none way gives = (none way gives, λ w lt f. branch_mid g x cost way least q (free_on way gives q.0 free) w lt f)
+  pub branch_not_needed : (q : PairId) → (is_open g x q.0 ≡ true) × (decided sides q.0 ≡ None) → (cost least : ℕ) → ((way : List Decision) → Gives way sides → IsNeeded g x cost least way q.0 → ⊥) → IsJudged g x cost (kind.Spent least) sides (Branch q) (Some Needed)
+  branch_not_needed q free cost least none way gives = (none way gives, λ w lt f. branch_mid g x cost way least q (free_on way gives q.0 free) w lt f)
 
   -- an open leaf
   pub leaf_optimal : (v cost : ℕ) → IsJudged g x cost kind.Optimal sides (OpenLeaf v) (Some Leaf)
   leaf_optimal v cost way gives = (tt, λ w lt f. leaf_low g x cost way v w lt f)
 
-  pub leaf_left : (v cost least budget : ℕ) → ((way : List Decision) → Gives way sides → IsLeftOpen g x cost way v) → IsJudged g x cost (kind.Spent least budget) sides (OpenLeaf v) None
-  leaf_left v cost least budget left way gives = (tt, left way gives)
+  pub leaf_left : (v cost least : ℕ) → ((way : List Decision) → Gives way sides → IsLeftOpen g x cost way v) → IsJudged g x cost (kind.Spent least) sides (OpenLeaf v) None
+  leaf_left v cost least left way gives = (tt, left way gives)
 
-  pub leaf_not_left : (v cost least budget : ℕ) → ((way : List Decision) → Gives way sides → IsLeftOpen g x cost way v → ⊥) → IsJudged g x cost (kind.Spent least budget) sides (OpenLeaf v) (Some Leaf)
-  leaf_not_left v cost least budget none way gives = (none way gives, λ w lt f. leaf_low_spent g x cost way least v w lt f)
+  pub leaf_not_left : (v cost least : ℕ) → ((way : List Decision) → Gives way sides → IsLeftOpen g x cost way v → ⊥) → IsJudged g x cost (kind.Spent least) sides (OpenLeaf v) (Some Leaf)
+  leaf_not_left v cost least none way gives = (none way gives, λ w lt f. leaf_low_spent g x cost way least v w lt f)
 
   -- a Force
   pub force_not_free : (q : PairId) (s : Side) (cycle : List PairId) → ((is_open g x q.0 ≡ true) × (decided sides q.0 ≡ None) → ⊥) → (cost : ℕ) (k : Kind) → IsJudged g x cost k sides (Force q s cycle) (Some Pair)
   force_not_free q s cycle none cost kind.Optimal way gives = (λ f. none (free_by way gives q.0 f), λ w lt f. force_low g x cost way q s cycle w lt f)
-  force_not_free q s cycle none cost (kind.Spent least budget) way gives = (λ f. none (free_by way gives q.0 f), λ w lt f. force_low g x cost way q s cycle w lt f)
+  force_not_free q s cycle none cost (kind.Spent least) way gives = (λ f. none (free_by way gives q.0 f), λ w lt f. force_low g x cost way q s cycle w lt f)
 
   -- the decisions with the other side
   forced_gives : (q : PairId) (s : Side) (way : List Decision) → Gives way sides → q.0 < length sides → Gives (force_to q s ∷ way) (set sides q.0 (Some s))
@@ -207,9 +207,9 @@ module _ (g : Graph) (x : FleetState) (sides : List (Option Side)) where
 
       go : (b : Bool) → (b ≡ true → IsCycle g (order_by g x (set sides q.0 (Some (other_side s)))) cycle) × (IsCycle g (order_by g x (set sides q.0 (Some (other_side s)))) cycle → b ≡ true) → (k : Kind) → Judges (MeetsAs g x cost k way (Force q s cycle)) (FailsAs g x cost k way (Force q s cycle)) (cond b None (Some Cycle))
       go true t kind.Optimal = ((free_on way gives q.0 free, there (t.0 refl)), tt)
-      go true t (kind.Spent least budget) = ((free_on way gives q.0 free, there (t.0 refl)), tt)
+      go true t (kind.Spent least) = ((free_on way gives q.0 free, there (t.0 refl)), tt)
       go false t kind.Optimal = (λ c. (let z = t.1 (back c) in cc), λ w lt f. force_mid g x cost way q s cycle (free_on way gives q.0 free) w lt f)
-      go false t (kind.Spent least budget) = (λ c. (let z = t.1 (back c) in cc), λ w lt f. force_mid g x cost way q s cycle (free_on way gives q.0 free) w lt f)
+      go false t (kind.Spent least) = (λ c. (let z = t.1 (back c) in cc), λ w lt f. force_mid g x cost way q s cycle (free_on way gives q.0 free) w lt f)
 
   pub force_judged_by : (q : PairId) (s : Side) (cycle : List PairId) (is : Bool) (found : Option NoWhy) (o : Side) → o ≡ other_side s → (is_open g x q.0 ≡ true) × (decided sides q.0 ≡ None) → q.0 < length sides → (is ≡ true → IsCycle g (order_by g x (set sides q.0 (Some o))) cycle) × (IsCycle g (order_by g x (set sides q.0 (Some o))) cycle → is ≡ true) → found ≡ cond is None (Some Cycle) → (cost : ℕ) (k : Kind) → IsJudged g x cost k sides (Force q s cycle) found
   force_judged_by q s cycle is found o eq free inside test e = force_judged q s cycle is found free inside (subst (λ (d : Side). (is ≡ true → IsCycle g (order_by g x (set sides q.0 (Some d))) cycle) × (IsCycle g (order_by g x (set sides q.0 (Some d))) cycle → is ≡ true)) eq test) e

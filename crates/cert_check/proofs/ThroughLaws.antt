@@ -37,19 +37,19 @@ item_there nodes k n lt e = slice_get-get_or nodes k n lt ∙ ap Some (sym e)
 
 module _ (g : Graph) (x : FleetState) (cost : ℕ) (k : Kind) (nodes : List Node) where
   excludes : (way : List Decision) (node : Node) (why : NoWhy) → MeetsAs g x cost k way node → FailsAs g x cost k way node why → ⊥
-  excludes way node why = of_kind (λ k. MeetsAs g x cost k way node → FailsAs g x cost k way node why → ⊥) (optimal_excludes g x cost way node why) (λ least budget. spent_excludes g x cost least way node why) k
+  excludes way node why = of_kind (λ k. MeetsAs g x cost k way node → FailsAs g x cost k way node why → ⊥) (optimal_excludes g x cost way node why) (λ least. spent_excludes g x cost least way node why) k
 
   right_of : (way : List Decision) (node : Node) → MeetsAs g x cost k way node → IsRight g x cost way node
-  right_of way node = of_kind (λ k. MeetsAs g x cost k way node → IsRight g x cost way node) (λ m. m.0) (λ least budget m. m.0) k
+  right_of way node = of_kind (λ k. MeetsAs g x cost k way node → IsRight g x cost way node) (λ m. m.0) (λ least m. m.0) k
 
   module _ (at : ℕ) (right : EachListed (MeetsAs g x cost k) (take at nodes) ([] ∷ [])) where
-    pub behind_the_end : (w : Way) (b : Bool) → b ≡ false → NextWay (ways_at nodes at) w b → at < length nodes → IsFirstFault (Fits (FailsAs g x cost k) (WholeFailsAs k nodes) nodes) at Shape
-    behind_the_end w b e next lt = fails_after (MeetsAs g x cost k) (FailsAs g x cost k) (WholeFailsAs k nodes) excludes nodes at right lt (subst (λ b. NextWay (ways_at nodes at) w b) e next)
+    pub behind_the_end : (w : Way) (b : Bool) → b ≡ false → NextWay (ways_at nodes at) w b → at < length nodes → (budget : ℕ) → IsFirstFault (Fits (FailsAs g x cost k) (WholeFailsAs k budget nodes) nodes) at Shape
+    behind_the_end w b e next lt budget = fails_after (MeetsAs g x cost k) (FailsAs g x cost k) (WholeFailsAs k budget nodes) excludes nodes at right lt (subst (λ b. NextWay (ways_at nodes at) w b) e next)
 
-    pub node_fails : (w : Way) (b : Bool) (node : Node) (why : NoWhy) (sides : List (Option Side)) → b ≡ true → NextWay (ways_at nodes at) w b → slice_get nodes at ≡ Some node → Gives (way_of (reverse w.steps.items)) sides → IsJudged g x cost k sides node (Some why) → IsFirstFault (Fits (FailsAs g x cost k) (WholeFailsAs k nodes) nodes) at why
-    node_fails w b node why sides e next there gives judged =
+    pub node_fails : (w : Way) (b : Bool) (node : Node) (why : NoWhy) (sides : List (Option Side)) → b ≡ true → NextWay (ways_at nodes at) w b → slice_get nodes at ≡ Some node → Gives (way_of (reverse w.steps.items)) sides → IsJudged g x cost k sides node (Some why) → (budget : ℕ) → IsFirstFault (Fits (FailsAs g x cost k) (WholeFailsAs k budget nodes) nodes) at why
+    node_fails w b node why sides e next there gives judged budget =
         let j = judged (way_of (reverse w.steps.items)) gives in
-        fails_at (MeetsAs g x cost k) (FailsAs g x cost k) (WholeFailsAs k nodes) excludes nodes at node (way_of (reverse w.steps.items)) (ways_behind (reverse w.steps.items)) why right there (subst (λ b. NextWay (ways_at nodes at) w b) e next) j.0 j.1
+        fails_at (MeetsAs g x cost k) (FailsAs g x cost k) (WholeFailsAs k budget nodes) excludes nodes at node (way_of (reverse w.steps.items)) (ways_behind (reverse w.steps.items)) why right there (subst (λ b. NextWay (ways_at nodes at) w b) e next) j.0 j.1
 
     pub one_more_right : (w : Way) (b : Bool) (node : Node) (sides : List (Option Side)) → b ≡ true → NextWay (ways_at nodes at) w b → slice_get nodes at ≡ Some node → Gives (way_of (reverse w.steps.items)) sides → IsJudged g x cost k sides node None → EachListed (MeetsAs g x cost k) (take (at + 1) nodes) ([] ∷ [])
     one_more_right w b node sides e next there gives judged =
@@ -59,10 +59,10 @@ module _ (g : Graph) (x : FleetState) (cost : ℕ) (k : Kind) (nodes : List Node
     next_way w b node v goes e next there after =
         simp unary_clauses (subst (λ (ways : List (List Decision)). NextWay ways v goes) (sym (ways_one_more nodes ([] ∷ []) at node there ∙ ap (ways_after node) (subst (λ b. NextWay (ways_at nodes at) w b) e next))) after)
 
-  pub ends_early : (n : ℕ) (right : EachListed (MeetsAs g x cost k) (take n nodes) ([] ∷ [])) (w : Way) (b : Bool) → n ≡ length nodes → b ≡ true → NextWay (ways_at nodes n) w b → IsFirstFault (Fits (FailsAs g x cost k) (WholeFailsAs k nodes) nodes) (length nodes) Shape
-  ends_early n right w b all e next =
+  pub ends_early : (n : ℕ) (right : EachListed (MeetsAs g x cost k) (take n nodes) ([] ∷ [])) (w : Way) (b : Bool) → n ≡ length nodes → b ≡ true → NextWay (ways_at nodes n) w b → (budget : ℕ) → IsFirstFault (Fits (FailsAs g x cost k) (WholeFailsAs k budget nodes) nodes) (length nodes) Shape
+  ends_early n right w b all e next budget =
       let ways = subst (λ b. NextWay (ways_at nodes n) w b) e next in
-      fails_early (MeetsAs g x cost k) (FailsAs g x cost k) (WholeFailsAs k nodes) excludes nodes (subst (λ (ns : List Node). EachListed (MeetsAs g x cost k) ns ([] ∷ [])) (ap (λ m. take m nodes) all ∙ take_all (length nodes) nodes (omega arith)) right) (λ none. let f = sym ways ∙ ap (λ m. ways_left (take m nodes) ([] ∷ [])) all ∙ ap (λ (ns : List Node). ways_left ns ([] ∷ [])) (take_all (length nodes) nodes (omega arith)) ∙ none in cc)
+      fails_early (MeetsAs g x cost k) (FailsAs g x cost k) (WholeFailsAs k budget nodes) excludes nodes (subst (λ (ns : List Node). EachListed (MeetsAs g x cost k) ns ([] ∷ [])) (ap (λ m. take m nodes) all ∙ take_all (length nodes) nodes (omega arith)) right) (λ none. let f = sym ways ∙ ap (λ m. ways_left (take m nodes) ([] ∷ [])) all ∙ ap (λ (ns : List Node). ways_left ns ([] ∷ [])) (take_all (length nodes) nodes (omega arith)) ∙ none in cc)
 
   pub decides_free : (w : Way) (node : Node) (way : List Decision) → ((q : ℕ) → decided w.sides.items q ≡ side_on way q) → vec_len w.sides ≡ length g.pairs → MeetsAs g x cost k way node → DecidesFree w node
   decides_free w node way sides has meets = go node (right_of way node meets)
@@ -82,10 +82,10 @@ module _ (g : Graph) (x : FleetState) (cost : ℕ) (nodes : List Node) where
   pub optimal_shows : IsFleetState g x → IsWhole g x cost kind.Optimal nodes → (s : Visit → ℕ) → IsLawful g x s → cost ≤ end_sum_of g s
   optimal_shows state w s lawful = let t = optimal_tree w in optimal_below g x cost t.0 s state t.2 lawful
 
-  module _ (least budget : ℕ) (w : IsWhole g x cost (kind.Spent least budget) nodes) where
+  module _ (least budget : ℕ) (w : IsWhole g x cost (kind.Spent least) nodes) where
     pub spent_tree : IsWholeRight least budget nodes → (tree : Tree) × (nodes ≡ nodes_of tree) × IsSpentTree g x cost least budget tree
     spent_tree r =
-        let t = whole_tree (MeetsAs g x cost (kind.Spent least budget)) nodes w.0 w.1 in
+        let t = whole_tree (MeetsAs g x cost (kind.Spent least)) nodes w.0 w.1 in
         let left : left_in nodes ≡ left_costs t.0 = ap left_in t.1 ∙ left_of_tree t.0 in (
           t.0,
           t.1,
@@ -102,4 +102,4 @@ module _ (g : Graph) (x : FleetState) (cost : ℕ) (nodes : List Node) where
     spent_shows state r s lawful = let t = spent_tree r in spent_below g x cost least budget t.0 s state t.2 lawful
 
     pub spent_fails : (why : NoWhy) → IsSpentWholeFault least budget nodes why → ((v : NoWhy) → rank_of v < rank_of why → ¬ IsSpentWholeFault least budget nodes v) → IsFirstFault (Fits (IsSpentFault g x cost least) (IsSpentWholeFault least budget nodes) nodes) (length nodes) why
-    spent_fails why f first = fails_whole (MeetsAs g x cost (kind.Spent least budget)) (IsSpentFault g x cost least) (IsSpentWholeFault least budget nodes) (spent_excludes g x cost least) nodes why w.0 w.1 f first
+    spent_fails why f first = fails_whole (MeetsAs g x cost (kind.Spent least)) (IsSpentFault g x cost least) (IsSpentWholeFault least budget nodes) (spent_excludes g x cost least) nodes why w.0 w.1 f first

@@ -21,17 +21,17 @@ TakesPath paths place robot pairs after = ((p : CertPath) × (slice_get paths pl
 -- what a node must meet in a tree of the kind
 abbrev pub MeetsAs : Graph → FleetState → ℕ → Kind → List Decision → Node → Type 0
 MeetsAs g x cost kind.Optimal way node = IsRight g x cost way node × IsClosing node
-MeetsAs g x cost (kind.Spent least budget) way node = IsRight g x cost way node × IsSpent g x cost least way node
+MeetsAs g x cost (kind.Spent least) way node = IsRight g x cost way node × IsSpent g x cost least way node
 
 -- what the words say of a node there
 abbrev pub FailsAs : Graph → FleetState → ℕ → Kind → List Decision → Node → NoWhy → Type 0
 FailsAs g x cost kind.Optimal way node why = IsOptimalFault g x cost way node why
-FailsAs g x cost (kind.Spent least budget) way node why = IsSpentFault g x cost least way node why
+FailsAs g x cost (kind.Spent least) way node why = IsSpentFault g x cost least way node why
 
--- and of the whole tree
-abbrev pub WholeFailsAs : Kind → List Node → NoWhy → Type 0
-WholeFailsAs kind.Optimal nodes why = IsNoFault why
-WholeFailsAs (kind.Spent least budget) nodes why = IsSpentWholeFault least budget nodes why
+-- and of the whole tree; only a spent tree has a budget
+abbrev pub WholeFailsAs : Kind → ℕ → List Node → NoWhy → Type 0
+WholeFailsAs kind.Optimal budget nodes why = IsNoFault why
+WholeFailsAs (kind.Spent least) budget nodes why = IsSpentWholeFault least budget nodes why
 
 -- a node meets what it must, or this is the first word that fits
 abbrev pub Judges : Type 0 → (NoWhy → Type 0) → Option NoWhy → Type 0
@@ -56,9 +56,9 @@ EachListed meets (node ∷ nodes) (way ∷ ways) = meets way node × EachListed 
 abbrev pub IsWhole : Graph → FleetState → ℕ → Kind → List Node → Type 0
 IsWhole g x cost kind nodes = EachListed (MeetsAs g x cost kind) nodes ([] ∷ []) × (ways_left nodes ([] ∷ []) ≡ [])
 
--- a word at a node is the first that fits
+-- a word at a node is the first that fits, whatever the budget is
 abbrev pub IsFirstAs : Graph → FleetState → ℕ → Kind → List Node → ℕ × NoWhy → Type 0
-IsFirstAs g x cost kind nodes found = IsFirstFault (Fits (FailsAs g x cost kind) (WholeFailsAs kind nodes) nodes) found.0 found.1
+IsFirstAs g x cost kind nodes found = (budget : ℕ) → IsFirstFault (Fits (FailsAs g x cost kind) (WholeFailsAs kind budget nodes) nodes) found.0 found.1
 
 -- a whole spent tree has as many branches as its budget, and the least number of its open leaves is this one
 abbrev pub IsWholeRight : ℕ → ℕ → List Node → Type 0

@@ -61,7 +61,7 @@ pub fn check_spent(
     ensures room { scratch.new ≡ scratch.old }
 {
     let nodes = cert.as_slice();
-    let kind = Kind::Spent { least, budget };
+    let kind = Kind::Spent { least };
     if let Some((node, why)) = first_fault(graph, fleet, kind, cost, nodes, scratch) {
         return Verdict::No { node, why };
     }

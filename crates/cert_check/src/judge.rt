@@ -26,7 +26,7 @@ use plan_graph::PlanGraph;
 #[derive(Clone, Copy)]
 pub(crate) enum Kind {
     Optimal,
-    Spent { least: u64, budget: u64 },
+    Spent { least: u64 },
 }
 
 /// The first word that fits a node, given the sides that are decided on the way to it.
@@ -82,8 +82,9 @@ fn judge_branch(
         return Some(NoWhy::Pair);
     }
     match kind {
-        Kind::Spent { least, .. } if !is_needed(graph, fleet, cost, least, pair, sides, ticks) =>
-            Some(NoWhy::Needed),
+        Kind::Spent { least } if !is_needed(graph, fleet, cost, least, pair, sides, ticks) => Some(
+            NoWhy::Needed,
+        ),
         _ => None,
     }
 }
@@ -99,7 +100,7 @@ fn judge_force(
     requires state { IsFleetState graph.now fleet.now }
     requires sides { HasSides graph.now sides.old }
     ensures optimal { (cost : ℕ) → IsJudged graph.now fleet.now cost kind.Optimal sides.old (Force pair side cycle.now) result }
-    ensures spent { (cost least budget : ℕ) → IsJudged graph.now fleet.now cost (kind.Spent least budget) sides.old (Force pair side cycle.now) result }
+    ensures spent { (cost least : ℕ) → IsJudged graph.now fleet.now cost (kind.Spent least) sides.old (Force pair side cycle.now) result }
     ensures sides { sides.new ≡ sides.old }
 {
     if !is_free(graph, fleet, sides, pair) {
@@ -121,7 +122,7 @@ fn judge_cyclic(
     requires state { IsFleetState graph.now fleet.now }
     requires sides { HasSides graph.now sides.now }
     ensures optimal { (cost : ℕ) → IsJudged graph.now fleet.now cost kind.Optimal sides.now (Cyclic cycle.now) result }
-    ensures spent { (cost least budget : ℕ) → IsJudged graph.now fleet.now cost (kind.Spent least budget) sides.now (Cyclic cycle.now) result }
+    ensures spent { (cost least : ℕ) → IsJudged graph.now fleet.now cost (kind.Spent least) sides.now (Cyclic cycle.now) result }
 {
     if is_cycle(graph, fleet, sides, cycle) {
         None
@@ -141,7 +142,7 @@ fn judge_bound(
     requires sides { HasSides graph.now sides.now }
     requires ascending { IsStrictlyIncreasing (map (λ p. p.robot) paths.now) }
     ensures optimal { IsJudged graph.now fleet.now cost kind.Optimal sides.now (Bound paths.now) result }
-    ensures spent { (least budget : ℕ) → IsJudged graph.now fleet.now cost (kind.Spent least budget) sides.now (Bound paths.now) result }
+    ensures spent { (least : ℕ) → IsJudged graph.now fleet.now cost (kind.Spent least) sides.now (Bound paths.now) result }
 {
     let Some(total) = total_length(graph, fleet, sides, paths) else {
         return Some(NoWhy::Path);

@@ -7,7 +7,7 @@ use Rattle.cert_check.proofs.ThroughLaws.{optimal_tree, optimal_shows}
 use Rattle.cert_check.proofs.check.check_optimal.Goals as goal
 
 pub returns-in-Some-clause-verdict : goal.returns-in-Some-clause-verdict
-returns-in-Some-clause-verdict c = subst (λ (ns : List Node). IsFirstFault (Fits (IsOptimalFault c.args.graph.now c.args.fleet.now c.args.cost) IsNoFault ns) c.in-Some.node c.in-Some.why) c.as_slice-nodes.ensures c.in-Some.ensures.some
+returns-in-Some-clause-verdict c = subst (λ (ns : List Node). IsFirstFault (Fits (IsOptimalFault c.args.graph.now c.args.fleet.now c.args.cost) IsNoFault ns) c.in-Some.node c.in-Some.why) c.as_slice-nodes.ensures (c.in-Some.ensures.some 0)
 
 pub returns-in-None-clause-verdict : goal.returns-in-None-clause-verdict
 returns-in-None-clause-verdict c = optimal_tree c.args.graph.now c.args.fleet.now c.args.cost c.args.cert.now (subst (λ (ns : List Node). IsWhole c.args.graph.now c.args.fleet.now c.args.cost kind.Optimal ns) c.as_slice-nodes.ensures c.in-None.ensures.none)
