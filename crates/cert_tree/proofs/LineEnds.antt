@@ -1,9 +1,7 @@
 -- The lines of a text, from the first on.
-use Rattle.std.proofs.Common.{ℕ, Some, None, ◌+◌, ◌-◌, ◌≤◌, ◌≡◌, ◌≢◌, Bool, true, false, cond, eqb, List, [], ◌∷◌, ◌++◌, length, map, take, drop, get_or, sym, ◌∙◌, ap, refl, arith}
+use Rattle.std.proofs.Common.{ℕ, Some, None, ◌+◌, ◌-◌, ◌≡◌, List, [], ◌∷◌, ◌++◌, map, take, drop, sym, ◌∙◌, ap}
 use Rattle.std.specs.Prelude.{◌==◌, position}
-use Rattle.std.specs.List.{AllByRecursion}
-use Rattle.std.proofs.lemmas.Bool.{cond-false, ne_eqb}
-use Rattle.std.proofs.lemmas.List.{take_all, take_more, take-append-drop}
+use Rattle.std.proofs.lemmas.List.{take-append-drop}
 use Rattle.fleet_base.specs.Bytes.{pieces_of, all_but_last, last_piece, without_cr, whole_lines}
 use Rattle.fleet_base.proofs.Pieces.{HasNoLf, pieces_some, pieces_whole, pieces_first}
 use Rattle.cert_tree.proofs.Positions.{found, absent, absent_before}

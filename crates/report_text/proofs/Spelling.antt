@@ -1,10 +1,8 @@
 -- Words and numbers behind spaces: where reading them stops, and that a spelling has one reading.
-use Rattle.std.proofs.Common.{ℕ, suc, zero, ◌≡◌, ◌-◌, ◌^◌, ◌<◌, ◌≤◌, List, [], ◌∷◌, ◌++◌, refl, sym, ap, ◌∙◌, subst, ⊎_elim, None, Ok, Err, Result, arith, length, get_or, append_assoc, length-append}
+use Rattle.std.proofs.Common.{ℕ, suc, zero, ◌≡◌, ◌-◌, ◌^◌, ◌<◌, ◌≤◌, List, [], ◌∷◌, ◌++◌, refl, sym, ap, ◌∙◌, subst, arith, length, get_or, append_assoc, length-append}
 use Rattle.std.specs.Prelude.{decimal, flat_map}
 use Rattle.std.proofs.lemmas.List.{append-nil, append_cancel_left, flat_map_more, nil_from_length}
-use Rattle.std.proofs.lemmas.Bool.{cases_lt}
 use Rattle.std.proofs.lemmas.Fmt.{decimal_injective}
-use Rattle.std.specs.Result.{OkIff, result_ok}
 use Rattle.fleet_base.specs.Bytes.{field}
 use Rattle.fleet_base.proofs.LineLaws.{AtLeast, decimal-at_least}
 use Rattle.report_text.specs.Reading.{spelled, AllFit, AllSmall, IsSpelled, IsSpelledSmall, Stops, BreaksOff, TakesNumber, HasNoNumber, TakesField, LacksField, no_space, no_number}

@@ -1,5 +1,5 @@
 -- A number that does not fit is no number below 2^32, since a text takes one number.
-use Rattle.std.proofs.Common.{ℕ, ◌≡◌, ◌<◌, ◌≤◌, ◌^◌, arith}
+use Rattle.std.proofs.Common.{◌≤◌, ◌^◌, arith}
 use Rattle.fleet_base.proofs.Numbers.{too_large}
 use Rattle.cert_tree.proofs.FieldLaws.{taken_once}
 use Rattle.cert_tree.proofs.fields.small_number.Goals as goal
