@@ -1,4 +1,12 @@
 // The program over files, reports and a station in memory.
+ghost use Rattle.std.specs.Prelude.{◌≡◌, ◌≤◌, ◌-◌, ◌^◌, ℕ, List, [], false, Some, None, IfOk, OnOk, codes, drop, flat_map, length, if◌then◌else◌};
+ghost use Rattle.std.specs.Str.{bytes_eq};
+ghost use Rattle.station_api.specs.Clock.{IsKept};
+ghost use Rattle.station_api.specs.Replay.{scene};
+ghost use Rattle.station_api.specs.Scene.{side_of};
+ghost use Rattle.station_api.specs.ShelfState.{shelf_file, shelf_fails_at};
+ghost use Rattle.station_api.specs.StationState.{station_clock, calls_of, fails_at, is_attached};
+
 use crate::papers::{CROSSING, Script, Texts};
 use fleet_cli::fleet_main;
 use station_api::{DiskSide, MemShelf, MemSource, MemStation, Shelf, Source, Station};
@@ -15,7 +23,11 @@ fn word_list(alloc: Global, words: &[&str]) -> Result<Vec<String>, Fail> {
 }
 
 /// A shelf with a map `M` and a plan `P`, which fails at these calls.
-pub fn shelf_of(alloc: Global, texts: Texts<'_>, failing: &[u64]) -> Result<MemShelf, Fail> {
+pub fn shelf_of(alloc: Global, texts: Texts<'_>, failing: &[u64]) -> Result<MemShelf, Fail>
+    ensures files { IfOk result (λ shelf. (name : List ℕ) → shelf_file shelf name ≡ (if bytes_eq (codes "P") name then Some texts.entry.1.now else if bytes_eq (codes "M") name then Some texts.entry.0.now else None)) }
+    ensures failing { IfOk result (λ shelf. shelf_fails_at shelf ≡ failing.now) }
+    ensures calls { IfOk result (λ shelf. shelf.meter.calls ≡ 0) }
+{
     let mut shelf = MemShelf::new(alloc, failing.to_vec(alloc)?);
     shelf.put(alloc, "M", texts.0)?;
     shelf.put(alloc, "P", texts.1)?;
@@ -23,7 +35,14 @@ pub fn shelf_of(alloc: Global, texts: Texts<'_>, failing: &[u64]) -> Result<MemS
 }
 
 /// A station that fails at these calls.
-pub fn station_of(alloc: Global, failing: &[u64]) -> Result<MemStation, Fail> {
+pub fn station_of(alloc: Global, failing: &[u64]) -> Result<MemStation, Fail>
+    ensures seen { IfOk result (λ station. (station_clock station).seen ≡ scene [] [] []) }
+    ensures kept { IfOk result (λ station. IsKept (station_clock station)) }
+    ensures failing { IfOk result (λ station. fails_at station ≡ failing.now) }
+    ensures calls { IfOk result (λ station. calls_of station ≡ 0) }
+    ensures attached { IfOk result (λ station. is_attached station ≡ false) }
+    ensures most { IfOk result (λ station. station.most ≡ 2 ^ 64 - 1) }
+{
     Ok(MemStation::new(alloc, failing.to_vec(alloc)?))
 }
 
@@ -69,7 +88,10 @@ pub fn play<T: Station>(
 }
 
 /// What was sent behind so many bytes.
-pub fn sent_behind(alloc: Global, station: &MemStation, front: usize) -> Result<Vec<u8>, Fail> {
+pub fn sent_behind(alloc: Global, station: &MemStation, front: usize) -> Result<Vec<u8>, Fail>
+    ensures within { OnOk result (front ≤ length (station_clock station.now).seen.sent) }
+    ensures sent { IfOk result (λ bytes. bytes.items ≡ drop front (station_clock station.now).seen.sent) }
+{
     let sent = station.sent().get(front..).ok_or("no less than before")?;
     Ok(sent.to_vec(alloc)?)
 }
@@ -89,20 +111,22 @@ pub fn next_session(
 }
 
 /// The bytes of side A.
-pub fn side_a(alloc: Global, station: &MemStation) -> Result<Vec<u8>, Fail> {
+pub fn side_a(alloc: Global, station: &MemStation) -> Result<Vec<u8>, Fail>
+    ensures { IfOk result (λ bytes. bytes.items ≡ side_of DiskSide.A (station_clock station.now).seen) }
+{
     Ok(station.side(DiskSide::A).to_vec(alloc)?)
 }
 
 /// The bytes of side B.
-pub fn side_b(alloc: Global, station: &MemStation) -> Result<Vec<u8>, Fail> {
+pub fn side_b(alloc: Global, station: &MemStation) -> Result<Vec<u8>, Fail>
+    ensures { IfOk result (λ bytes. bytes.items ≡ side_of DiskSide.B (station_clock station.now).seen) }
+{
     Ok(station.side(DiskSide::B).to_vec(alloc)?)
 }
 
 /// Pieces, one behind another.
-pub fn joined(alloc: Global, pieces: &[&[u8]]) -> Result<Vec<u8>, Fail> {
-    let mut whole = Vec::new(alloc);
-    for piece in pieces {
-        whole.extend_from_slice(piece)?;
-    }
-    Ok(whole)
+pub fn joined(alloc: Global, pieces: &[&[u8]]) -> Result<Vec<u8>, Fail>
+    ensures { IfOk result (λ whole. whole.items ≡ flat_map (λ piece. piece.now) pieces.now) }
+{
+    Ok(pieces.concat(alloc)?)
 }

@@ -1,4 +1,8 @@
 // What a session says, read line by line.
+ghost use Rattle.std.specs.Prelude.{◌≡◌, None, filter_map};
+ghost use Rattle.std.specs.List.{last_or};
+ghost use Rattle.trial_base.specs.Kept.{count_in};
+
 use report_text::{Answer, read_answer};
 use std::alloc::Global;
 use std::test::Fail;
@@ -20,7 +24,9 @@ pub fn answers_in(alloc: Global, sent: &[u8]) -> Result<Vec<Answer>, Fail> {
 }
 
 /// How many reports are kept for certain, by the last answer that says so.
-pub fn kept_by(answers: &[Answer]) -> Option<u64> {
+pub fn kept_by(answers: &[Answer]) -> Option<u64>
+    ensures { result ≡ last_or None (filter_map count_in answers.now) }
+{
     let mut kept = None;
     for answer in answers {
         if let Answer::Ready { count } | Answer::Done { count } = *answer {
