@@ -30,10 +30,11 @@ nodes_of (Refuted cycle) = Cyclic cycle ∷ []
 nodes_of (Bounded paths) = Bound paths ∷ []
 nodes_of (Left least) = OpenLeaf least ∷ []
 
--- a decision of a Branch, and one of a Force
+-- a decision of a Branch
 abbrev pub branch_to : PairId → Side → Decision
 branch_to q side = record { pair = q.0; side = side; branched = true }
 
+-- a decision of a Force
 abbrev pub force_to : PairId → Side → Decision
 force_to q side = record { pair = q.0; side = side; branched = false }
 

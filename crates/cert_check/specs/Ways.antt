@@ -13,17 +13,19 @@ use Rattle.cert_check.specs.Decisions.{Decision, side_on}
 use Rattle.cert_check.specs.Trees.{branch_to, force_to}
 use Rattle.cert_check.specs.Sides.{decided}
 
--- the pair and the side of a step, and its decision
+-- the pair of a step
 abbrev pub step_pair : Step → PairId
 step_pair (Lower q) = q
 step_pair (Higher q) = q
 step_pair (Forced q s) = q
 
+-- the side of a step
 abbrev pub step_side : Step → Side
 step_side (Lower q) = side.Lower
 step_side (Higher q) = side.Higher
 step_side (Forced q s) = s
 
+-- the decision of a step
 abbrev pub decision_of : Step → Decision
 decision_of (Lower q) = branch_to q side.Lower
 decision_of (Higher q) = branch_to q side.Higher

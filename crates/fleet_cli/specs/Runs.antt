@@ -40,10 +40,11 @@ pub record Talk : Type 1 where
   pub source_failed : Type 0
   pub line : Line
 
--- the greatest length of a side of a run's journal, and the most bytes of input that a run takes
+-- the greatest length of a side of a run's journal
 abbrev pub side_limit : ℕ
 side_limit = 2 ^ 30
 
+-- the most bytes of input that a run takes
 abbrev pub input_limit : ℕ
 input_limit = 2 ^ 32
 
@@ -71,10 +72,11 @@ said {routes} s = text_of (greeting_of routes s.start.state ++ answers_of s.turn
 abbrev pub Says : List (List PlannedVisit) → Papers → Talk → List ℕ → List ℕ → Type 0
 Says routes papers talk bytes more = (s : IsTalk routes papers talk bytes) × (s.left ≡ []) × Sends (sent_on talk.line) (said s ++ more)
 
--- the line of a failed source, and that of too much input
+-- the line of a failed source
 abbrev pub unread_line : List ℕ
 unread_line = codes "fault read reports" ++ 10 ∷ []
 
+-- the line of too much input
 abbrev pub past_limit_line : List ℕ
 past_limit_line = codes "fault limit" ++ 10 ∷ []
 
