@@ -30,7 +30,7 @@ def session(fleet, journal, reports, orders=None):
 
 
 def begin(fleet, folder, known):
-    """A journal with the first reports in it, and what a session on it sends that hears all of them."""
+    """The name of a journal in a folder of its own, with so many reports in it."""
     journal = pathlib.Path(tempfile.mkdtemp(dir=folder)) / "J"
     if known:
         assert session(fleet, journal, REPORTS[:known])[0] == 0
