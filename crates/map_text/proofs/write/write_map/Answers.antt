@@ -6,7 +6,7 @@ use Rattle.map_text.proofs.write.write_map.Goals as goal
 pub loop-row-init : goal.loop-row-init
 loop-row-init c =
     header_written c.args.grid.now _ _ _ _ _ _ c.from.result c.from-2.result (c.from.ensures ∙ c.height.ensures) (c.from-2.ensures ∙ c.width.ensures) (omega arith) (omega arith)
-    c.new-text.ensures c.in_ok-push_all.ensures c.in_ok-push_number.ensures.ok c.in_ok-push_all-2.ensures c.in_ok-push_number-2.ensures.ok c.in_ok-push_all-3.ensures
+    c.new-text.ensures c.in_ok-push_bytes.ensures.ok c.in_ok-push_number.ensures.ok c.in_ok-push_bytes-2.ensures.ok c.in_ok-push_number-2.ensures.ok c.in_ok-push_bytes-3.ensures.ok
 
 pub loop-row-preserved : goal.loop-row-preserved
 loop-row-preserved c =
