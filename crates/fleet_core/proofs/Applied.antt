@@ -10,14 +10,14 @@ use Rattle.fleet_base.specs.declared.order.Side.TheVariants.{Lower}
 use Rattle.fleet_base.specs.declared.report.Report.{Report}
 use Rattle.fleet_base.specs.declared.report.Report.TheVariants.{Arrive, Delay}
 use Rattle.fleet_base.specs.Lists.{row_of}
-use Rattle.fleet_base.specs.Order.{Graph, IsSoundOrder, order_of, other_side}
+use Rattle.fleet_base.specs.Order.{Graph, IsSoundOrder, order_of, other_side, turned}
 use Rattle.fleet_base.specs.State.{FleetState, IsFleetOf}
 use Rattle.fleet_base.specs.Release.{Releases}
 use Rattle.fleet_base.specs.Rules.{IsFleetState}
 use Rattle.fleet_base.proofs.Settling.{IsHeard}
 use Rattle.fleet_core.specs.declared.judging.Judged.TheVariants.{Accept}
 use Rattle.fleet_core.specs.Judgement.{judgement_of}
-use Rattle.fleet_core.specs.Step.{Step, IsChoice, MaySwitch, heard_of, tick_of, turned}
+use Rattle.fleet_core.specs.Step.{Step, IsChoice, MaySwitch, heard_of, tick_of}
 use Rattle.fleet_core.specs.Pushing.{pushed, HaveRoom}
 use Rattle.fleet_core.proofs.Arriving.{accepted_arrival, heard_keeps as arrival_heard}
 use Rattle.fleet_core.proofs.Delaying.{accepted_delay, heard_keeps as delay_heard}

@@ -14,15 +14,15 @@ use Rattle.fleet_base.specs.declared.report.Report.{Report}
 use Rattle.fleet_base.specs.declared.report.Report.TheVariants.{Arrive, Delay}
 use Rattle.fleet_base.specs.declared.report.Why.TheVariants.{Robot, Index, Arrived, Tick, Size}
 use Rattle.fleet_base.specs.Lists.{row_of}
-use Rattle.fleet_base.specs.Order.{Graph, IsVisit, HasEdge, order_of, second_visit, other_side}
+use Rattle.fleet_base.specs.Order.{Graph, IsVisit, HasEdge, order_of, second_visit, other_side, turned}
 use Rattle.fleet_base.specs.Open.{is_open, is_settled}
 use Rattle.fleet_base.specs.State.{FleetState, arrived, released, released_count, delay_of}
 use Rattle.fleet_base.specs.Rules.{IsFleetState}
-use Rattle.fleet_base.proofs.Members.{head_in, tail_in}
 use Rattle.fleet_base.proofs.Settling.{IsHeard, settles}
+use Rattle.fleet_base.proofs.Turning.{turned_or_old, length-turned}
 use Rattle.fleet_core.specs.declared.judging.Judged.TheVariants.{Accept, Known, Refused}
 use Rattle.fleet_core.specs.Judgement.{judgement_of, is_bad_tick}
-use Rattle.fleet_core.specs.Step.{Step, IsChoice, heard_of, turned}
+use Rattle.fleet_core.specs.Step.{Step, IsChoice, heard_of}
 use Rattle.fleet_core.proofs.Arriving.{passed, neither, arrival_keeps_rules}
 
 -- what an accepted delay says
@@ -43,30 +43,6 @@ accepted_delay x i k extra tick e =
     let z = passed (ltb 1000000 extra) (Refused Size) Accept (λ h. cc) f.1 in
     let t = neither (ltb tick x.clock) (ltb (10 ^ 12) tick) f.0 in
     record { robot = leb-false _ _ a.0; ahead = leb-false _ _ d.0; after = ltb-false _ _ t.0; before = ltb-false _ _ t.1; size = ltb-false _ _ z.0 }
-
--- ---- turned sides
-
-slice_get-set_other : {X : Type 0} (xs : List X) (p q : ℕ) (y : X) → q ≢ p → slice_get (set xs p y) q ≡ slice_get xs q
-slice_get-set_other [] p q y ne = refl
-slice_get-set_other (x ∷ xs) zero zero y ne = absurd (ne refl)
-slice_get-set_other (x ∷ xs) zero (suc q) y ne = refl
-slice_get-set_other (x ∷ xs) (suc p) zero y ne = refl
-slice_get-set_other (x ∷ xs) (suc p) (suc q) y ne = slice_get-set_other xs p q y (λ e. ne (ap suc e))
-
-pub length-turned : (sides : List Side) (qs : List PairId) → length (turned sides qs) ≡ length sides
-length-turned sides [] = refl
-length-turned sides (q ∷ qs) = length-turned (set sides q.0 (other_side (get_or sides q.0 Lower))) qs ∙ length-set sides q.0 (other_side (get_or sides q.0 Lower))
-
--- a pair has its old side, or is one of those that were turned
-pub turned_or_old : (sides : List Side) (qs : List PairId) (q : ℕ) → (order_of (turned sides qs) q ≡ order_of sides q) ⊎ ((p : PairId) × Contains qs p × (p.0 ≡ q))
-turned_or_old sides [] q = inl refl
-turned_or_old sides (p ∷ ps) q = go (turned_or_old (set sides p.0 (other_side (get_or sides p.0 Lower))) ps q) (cases_eq q p.0)
-  where
-    go : (order_of (turned (set sides p.0 (other_side (get_or sides p.0 Lower))) ps) q ≡ order_of (set sides p.0 (other_side (get_or sides p.0 Lower))) q) ⊎ ((r : PairId) × Contains ps r × (r.0 ≡ q))
-        → (q ≡ p.0) ⊎ (q ≡ p.0 → ⊥) → (order_of (turned (set sides p.0 (other_side (get_or sides p.0 Lower))) ps) q ≡ order_of sides q) ⊎ ((r : PairId) × Contains (p ∷ ps) r × (r.0 ≡ q))
-    go (inr r) o = inr (r.0, tail_in p ps r.0 r.1, r.2)
-    go (inl e) (inl same) = inr (p, head_in p ps, sym same)
-    go (inl e) (inr ne) = inl (e ∙ slice_get-set_other sides p.0 q (other_side (get_or sides p.0 Lower)) ne)
 
 -- ---- open pairs
 
@@ -224,3 +200,19 @@ pub step_keeps_rules : (g : Graph) (x : FleetState) (report : Report) (switched 
 step_keeps_rules g x (Arrive i k tick) switched releases x' s step =
     arrival_keeps_rules g x i k tick releases x' s (subst (λ (qs : List PairId). Step g x (Arrive i k tick) qs releases x') step.proposal.switches step)
 step_keeps_rules g x (Delay i k extra tick) switched releases x' s step = delay_keeps_rules g x i k extra tick switched releases x' s step
+
+-- the state with the delay applied keeps them before any switch and release: what is released is a matter of arrivals and sides alone
+pub heard_delay_keeps_rules : (g : Graph) (x : FleetState) (i k extra tick : ℕ) → IsFleetState g x → judgement_of x (Delay i k extra tick) ≡ Accept → x.count < 2 ^ 62 → IsFleetState g (heard_of x (Delay i k extra tick))
+heard_delay_keeps_rules g x i k extra tick s accepted few = record {
+  fleet = h.fleet;
+  releases = record { window = h.window; started = h.started; within = h.within; last = λ j l. let m = s.releases.last j l in record { within = m.within; clear = m.clear; greatest = m.greatest } };
+  ticks = h.ticks;
+  no_delay = h.no_delay;
+  delays = h.delays;
+  order = h.order;
+  starts = h.starts;
+  count = h.count;
+}
+  where
+    h : IsHeard g (heard_of x (Delay i k extra tick))
+    h = heard_keeps g x i k extra tick [] s (accepted_delay x i k extra tick accepted) few (record { are_open = λ n d lt. absurd (omega (arith, lt)); sound = s.order })

@@ -6,7 +6,7 @@ use Rattle.fleet_base.specs.declared.geometry.Visit.{Visit}
 use Rattle.fleet_base.specs.declared.order.PairId.{PairId}
 use Rattle.fleet_base.specs.declared.order.Side.{Side}
 use Rattle.fleet_base.specs.declared.report.Report.{Report}
-use Rattle.fleet_base.specs.Order.{Graph, IsSoundOrder, IsCyclic, order_of}
+use Rattle.fleet_base.specs.Order.{Graph, IsSoundOrder, IsCyclic, order_of, turned}
 use Rattle.fleet_base.specs.State.{FleetState}
 use Rattle.fleet_base.specs.Release.{Releases}
 use Rattle.fleet_base.specs.Rules.{IsFleetState}
@@ -16,7 +16,7 @@ use Rattle.fleet_core.specs.declared.entry.PrepareError.{PrepareError}
 use Rattle.fleet_core.specs.declared.entry.PrepareError.TheVariants.{ChoiceRefused, Memory}
 use Rattle.fleet_core.specs.declared.entry.ChoiceWhy.{ChoiceWhy}
 use Rattle.fleet_core.specs.declared.entry.ChoiceWhy.TheVariants.{Closed, Cyclic}
-use Rattle.fleet_core.specs.Step.{Step, IsProposal, IsChoice, heard_of, turned}
+use Rattle.fleet_core.specs.Step.{Step, IsProposal, IsChoice, heard_of}
 use Rattle.fleet_core.specs.Preparing.{ChoiceIsRefused, PrepareIs}
 use Rattle.fleet_core.specs.Switching.{AreSwitchable, SwitchIs, SwitchIsRefused}
 use Rattle.fleet_core.proofs.Applied.{heard_sides, heard_clock, switched_state, switched_heard}

@@ -10,10 +10,9 @@ use Rattle.fleet_base.specs.declared.order.Pair.{Pair}
 use Rattle.fleet_base.specs.declared.order.PairId.{PairId}
 use Rattle.fleet_base.specs.declared.order.Side.{Side}
 use Rattle.fleet_base.specs.declared.order.Side.TheVariants.{Lower, Higher}
-use Rattle.fleet_base.specs.Order.{Graph, IsVisit, HasEdge, Before, IsSorted, IsCyclic, IsSoundOrder, order_of, last_in, next_visit, first_visit}
+use Rattle.fleet_base.specs.Order.{Graph, IsVisit, HasEdge, Before, IsSorted, IsCyclic, IsSoundOrder, order_of, last_in, next_visit, first_visit, turned}
 use Rattle.fleet_base.specs.Open.{is_open, is_settled}
 use Rattle.fleet_base.specs.State.{FleetState, IsFleetOf, released_count}
-use Rattle.fleet_core.specs.Step.{turned}
 use Rattle.plan_graph.specs.declared.ranking.Ranked.{Ranked}
 use Rattle.plan_graph.specs.declared.ranking.Ranked.TheVariants.{Order, Cycle}
 use Rattle.plan_graph.specs.Views.{OrientedGraph, Ranking, order_in}
@@ -23,7 +22,8 @@ use Rattle.fleet_core.specs.declared.entry.PrepareError.{PrepareError}
 use Rattle.fleet_core.specs.declared.entry.PrepareError.TheVariants.{ChoiceRefused}
 use Rattle.fleet_core.specs.declared.entry.ChoiceWhy.TheVariants.{Cyclic}
 use Rattle.fleet_core.specs.Switching.{AreSwitchable, OrderIs, SwitchIs}
-use Rattle.fleet_core.proofs.Delaying.{turned_or_old, length-turned, both_not}
+use Rattle.fleet_base.proofs.Turning.{turned_or_old, length-turned}
+use Rattle.fleet_core.proofs.Delaying.{both_not}
 
 -- ---- orders that give each pair the same side
 

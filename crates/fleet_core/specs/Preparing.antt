@@ -2,7 +2,7 @@
 use Rattle.std.specs.Prelude.{ℕ, ◌≡◌, ◌<◌, List, slice_get, Some, Result, Ok, Err, true, false, All}
 use Rattle.fleet_base.specs.declared.order.PairId.{PairId}
 use Rattle.fleet_base.specs.declared.report.Report.{Report}
-use Rattle.fleet_base.specs.Order.{Graph, IsCyclic, order_of}
+use Rattle.fleet_base.specs.Order.{Graph, IsCyclic, order_of, turned}
 use Rattle.fleet_base.specs.Open.{is_open}
 use Rattle.fleet_base.specs.State.{FleetState}
 use Rattle.fleet_base.specs.Rules.{IsFleetState}
@@ -11,7 +11,7 @@ use Rattle.fleet_core.specs.declared.entry.PrepareError.{PrepareError}
 use Rattle.fleet_core.specs.declared.entry.PrepareError.TheVariants.{ChoiceRefused, Memory}
 use Rattle.fleet_core.specs.declared.entry.ChoiceWhy.{ChoiceWhy}
 use Rattle.fleet_core.specs.declared.entry.ChoiceWhy.TheVariants.{Closed, Cyclic}
-use Rattle.fleet_core.specs.Step.{Step, heard_of, turned}
+use Rattle.fleet_core.specs.Step.{Step, heard_of}
 
 -- the pair is the first of the list that is not open
 pub record IsFirstClosed (g : Graph) (x : FleetState) (switched : List PairId) (q : PairId) : Type 0 where

@@ -1,14 +1,12 @@
 -- One event of the fleet.
-use Rattle.std.specs.Prelude.{ℕ, ◌≡◌, ◌+◌, ◌^◌, ◌<◌, List, [], ◌∷◌, ◌++◌, map, All, true, slice_index_or, slice_set, length}
+use Rattle.std.specs.Prelude.{ℕ, ◌≡◌, ◌+◌, ◌^◌, ◌<◌, List, [], ◌∷◌, ◌++◌, map, All, true, slice_set, length}
 use Rattle.std.specs.List.Sorted.{IsStrictlyIncreasing}
 use Rattle.fleet_base.specs.declared.geometry.Visit.{Visit}
 use Rattle.fleet_base.specs.declared.order.PairId.{PairId}
-use Rattle.fleet_base.specs.declared.order.Side.{Side}
-use Rattle.fleet_base.specs.declared.order.Side.TheVariants.{Lower}
 use Rattle.fleet_base.specs.declared.report.Report.{Report}
 use Rattle.fleet_base.specs.declared.report.Report.TheVariants.{Arrive, Delay}
 use Rattle.fleet_base.specs.Lists.{row_of}
-use Rattle.fleet_base.specs.Order.{Graph, IsSoundOrder, order_of, other_side}
+use Rattle.fleet_base.specs.Order.{Graph, IsSoundOrder, order_of, turned}
 use Rattle.fleet_base.specs.State.{FleetState}
 use Rattle.fleet_base.specs.Release.{Releases, new_releases}
 use Rattle.fleet_base.specs.Open.{is_open}
@@ -24,11 +22,6 @@ tick_of (Delay i k extra tick) = tick
 abbrev pub heard_of : FleetState → Report → FleetState
 heard_of x (Arrive i k tick) = record x { arrivals = slice_set x.arrivals i (row_of x.arrivals i ++ tick ∷ []); clock = tick; count = x.count + 1 }
 heard_of x (Delay i k extra tick) = record x { delays = slice_set x.delays i (slice_set (row_of x.delays i) k extra); clock = tick; count = x.count + 1 }
-
--- the sides after these pairs are turned
-abbrev pub turned : List Side → List PairId → List Side
-turned sides [] = sides
-turned sides (q ∷ qs) = turned (slice_set sides q.0 (other_side (slice_index_or sides q.0 Lower))) qs
 
 -- only a delay may switch
 abbrev pub MaySwitch : Report → List PairId → Type 0

@@ -3,7 +3,7 @@ use Rattle.std.specs.Prelude.{ℕ, ◌≡◌, List, slice_get, Some, Option, Res
 use Rattle.fleet_base.specs.declared.geometry.Visit.{Visit}
 use Rattle.fleet_base.specs.declared.order.PairId.{PairId}
 use Rattle.fleet_base.specs.declared.order.Side.{Side}
-use Rattle.fleet_base.specs.Order.{Graph, IsSorted, IsCyclic, IsSoundOrder, order_of}
+use Rattle.fleet_base.specs.Order.{Graph, IsSorted, IsCyclic, IsSoundOrder, order_of, turned}
 use Rattle.fleet_base.specs.Open.{is_open}
 use Rattle.fleet_base.specs.State.{FleetState}
 use Rattle.plan_graph.specs.declared.ranking.Ranked.{Ranked}
@@ -12,7 +12,6 @@ use Rattle.fleet_core.specs.declared.entry.PrepareError.{PrepareError}
 use Rattle.fleet_core.specs.declared.entry.PrepareError.TheVariants.{ChoiceRefused, Memory}
 use Rattle.fleet_core.specs.declared.entry.ChoiceWhy.{ChoiceWhy}
 use Rattle.fleet_core.specs.declared.entry.ChoiceWhy.TheVariants.{Closed, Cyclic}
-use Rattle.fleet_core.specs.Step.{turned}
 use Rattle.fleet_core.specs.Preparing.{IsFirstClosed}
 
 -- whether an order is cyclic: all visits are listed so that each edge goes forward, or no list is

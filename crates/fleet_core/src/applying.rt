@@ -1,9 +1,9 @@
 // What an entry changes in the fleet.
 ghost use Rattle.std.specs.Prelude.{ℕ, ◌≡◌, ◌<◌, List, All, length};
-ghost use Rattle.fleet_base.specs.Order.{Graph};
+ghost use Rattle.fleet_base.specs.Order.{Graph, turned};
 ghost use Rattle.fleet_base.specs.State.{FleetState};
 ghost use Rattle.fleet_base.specs.Rules.{IsFleetState};
-ghost use Rattle.fleet_core.specs.Step.{Step, turned};
+use Rattle.fleet_core.specs.Step.{Step};
 ghost use Rattle.fleet_core.specs.Preparing.{IsPrepared};
 ghost use Rattle.fleet_core.specs.Pushing.{HaveRoom, pushed};
 

@@ -6,12 +6,12 @@ use Rattle.fleet_base.specs.declared.order.PairId.{PairId}
 use Rattle.fleet_base.specs.declared.report.Report.{Report}
 use Rattle.fleet_base.specs.declared.report.Report.TheVariants.{Arrive, Delay}
 use Rattle.fleet_base.specs.Lists.{row_of}
-use Rattle.fleet_base.specs.Order.{Graph}
-use Rattle.fleet_base.specs.State.{FleetState, order_at, released, released_count, start_of}
-use Rattle.fleet_base.specs.Release.{Releases, IsLastReleasable, IsFirstState}
+use Rattle.fleet_base.specs.Order.{Graph, turned}
+use Rattle.fleet_base.specs.State.{FleetState, order_at, released, released_count, start_ahead}
+use Rattle.fleet_base.specs.Release.{Releases, IsLastReleasable, IsFirstState, IsFirstStateAhead}
 use Rattle.fleet_base.specs.Rules.{IsFleetState}
 use Rattle.fleet_base.proofs.GraphLaws.{length-map, get_or-map}
-use Rattle.fleet_core.specs.Step.{Step, heard_of, tick_of, turned}
+use Rattle.fleet_core.specs.Step.{Step, heard_of, tick_of}
 use Rattle.fleet_core.proofs.Delaying.{step_keeps_rules}
 use Rattle.journal_frame.specs.Entries.{Accepted}
 use Rattle.journal_frame.proofs.EntryLaws.{entry_one}
@@ -35,12 +35,15 @@ releases_one g tick x y z robots some one two =
         let same : released_count y i ≡ released_count z i = omega (arith, last, counted y i at_y, counted z i at_z, some i h) in
         at_y ∙ ap (λ (n : ℕ). row_of x.releases i ++ replicate (n - released_count x i) tick) same ∙ sym at_z
 
--- there is one first state
-pub first_one : (g : Graph) (x y : FleetState) → IsFirstState g x → IsFirstState g y → x ≡ y
-first_one g x y one two = releases_one g 0 (start_of g) x y (length-map zeros g.lasts) (λ i h. omega (arith, ap length (get_or-map zeros g.lasts i 0 [] h))) one two
+-- there is one first state for each window
+pub first_ahead_one : (g : Graph) (window : ℕ) (x y : FleetState) → IsFirstStateAhead g window x → IsFirstStateAhead g window y → x ≡ y
+first_ahead_one g window x y one two = releases_one g 0 (start_ahead g window) x y (length-map zeros g.lasts) (λ i h. omega (arith, ap length (get_or-map zeros g.lasts i 0 [] h))) one two
   where
     zeros : ℕ → List ℕ
     zeros n = 0 ∷ []
+
+pub first_one : (g : Graph) (x y : FleetState) → IsFirstState g x → IsFirstState g y → x ≡ y
+first_one g x y one two = first_ahead_one g 1 x y one two
 
 heard_releases : (x : FleetState) (report : Report) → (heard_of x report).releases ≡ x.releases
 heard_releases x (Arrive i k tick) = refl
@@ -51,6 +54,25 @@ step_one g x report switched rs ss y z s one two =
     let x1 : FleetState = record (heard_of x report) { sides = turned x.sides switched } in
     let same : x1.releases ≡ x.releases = heard_releases x report in
     releases_one g (tick_of report) x1 y z (ap length same ∙ s.fleet.releases) (λ i h. omega (arith, ap (λ (rows : List (List ℕ)). length (row_of rows i)) same, s.releases.started i h, s.releases.within i h)) one.state two.state
+
+-- no event changes the window
+heard_window : (x : FleetState) (report : Report) → (heard_of x report).window ≡ x.window
+heard_window x (Arrive i k tick) = refl
+heard_window x (Delay i k extra tick) = refl
+
+pub step_window : (g : Graph) (x : FleetState) (report : Report) (switched : List PairId) (releases : List Visit) (y : FleetState) → Step g x report switched releases y → y.window ≡ x.window
+step_window g x report switched releases y step = ap (λ (z : FleetState). z.window) step.state.others ∙ heard_window x report
+
+pub enters_window : (g : Graph) (x : FleetState) (payload : List ℕ) (y : FleetState) → Enters g x payload y → y.window ≡ x.window
+enters_window g x payload y e = step_window g x e.entry.report e.entry.switched e.releases y e.step
+
+pub leads_window : (g : Graph) (x : FleetState) (payloads : List (List ℕ)) (y : FleetState) → Leads g x payloads y → y.window ≡ x.window
+leads_window g x [] y same = ap (λ (z : FleetState). z.window) same
+leads_window g x (payload ∷ payloads) y (u, enters, rest) = leads_window g u payloads y rest ∙ enters_window g x payload u enters
+
+-- a first state has its window
+pub first_window : (g : Graph) (window : ℕ) (x : FleetState) → IsFirstStateAhead g window x → x.window ≡ window
+first_window g window x first = ap (λ (z : FleetState). z.window) first.others
 
 -- an entry leads to one state
 pub enters_one : (g : Graph) (x : FleetState) (payload : List ℕ) (y z : FleetState) → IsFleetState g x → Enters g x payload y → Enters g x payload z → y ≡ z

@@ -3,7 +3,7 @@ use Rattle.std.specs.Prelude.{All}
 use Rattle.fleet_base.specs.declared.geometry.Visit.{Visit}
 use Rattle.fleet_base.specs.declared.order.PairId.{PairId}
 use Rattle.fleet_base.specs.State.{FleetState}
-use Rattle.fleet_core.specs.Step.{turned}
+use Rattle.fleet_base.specs.Order.{turned}
 use Rattle.fleet_core.specs.Pushing.{pushed, HaveRoom}
 use Rattle.fleet_core.proofs.Applied.{there_after, heard_sides, turned_state, room_after, step_after}
 use Rattle.fleet_core.proofs.applying.apply.Goals as goal

@@ -1,5 +1,5 @@
 use Rattle.std.proofs.Common.{◌≡◌, drop, length}
-use Rattle.fleet_core.specs.Step.{turned}
+use Rattle.fleet_base.specs.Order.{turned}
 use Rattle.fleet_core.proofs.applying.turn.Given as goal
 
 abbrev pub invariant-loop-q : goal.invariant-loop-q
