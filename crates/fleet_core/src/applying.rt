@@ -3,7 +3,7 @@ ghost use Rattle.std.specs.Prelude.{ℕ, ◌≡◌, ◌<◌, List, All, length};
 ghost use Rattle.fleet_base.specs.Order.{Graph, turned};
 ghost use Rattle.fleet_base.specs.State.{FleetState};
 ghost use Rattle.fleet_base.specs.Rules.{IsFleetState};
-use Rattle.fleet_core.specs.Step.{Step};
+ghost use Rattle.fleet_core.specs.Step.{Step};
 ghost use Rattle.fleet_core.specs.Preparing.{IsPrepared};
 ghost use Rattle.fleet_core.specs.Pushing.{HaveRoom, pushed};
 
