@@ -1,5 +1,5 @@
 -- An accepted delay, with the pairs that it switches, leads to a state that keeps the rules.
-use Rattle.std.proofs.Common.{ℕ, suc, zero, ◌≡◌, ◌≢◌, ◌^◌, ◌<◌, ◌≤◌, ◌⊎◌, List, [], ◌∷◌, Some, Option, true, false, Bool, leb, ltb, eqb, set, refl, sym, ap, ◌∙◌, subst, inl, inr, arith, length, get_or}
+use Rattle.std.proofs.Common.{ℕ, ◌≡◌, ◌≢◌, ◌^◌, ◌<◌, ◌≤◌, ◌⊎◌, List, [], Some, Option, true, false, Bool, leb, ltb, eqb, set, refl, sym, ap, ◌∙◌, subst, inl, inr, arith, length, get_or}
 use Rattle.std.specs.Prelude.{Contains, slice_get, ◌||◌, ◌&&◌, not, slice_index}
 use Rattle.std.specs.Option.{option_map_or}
 use Rattle.std.proofs.Math.ListN.{get_or-eq_default}
@@ -14,7 +14,7 @@ use Rattle.fleet_base.specs.declared.report.Report.{Report}
 use Rattle.fleet_base.specs.declared.report.Report.TheVariants.{Arrive, Delay}
 use Rattle.fleet_base.specs.declared.report.Why.TheVariants.{Robot, Index, Arrived, Tick, Size}
 use Rattle.fleet_base.specs.Lists.{row_of}
-use Rattle.fleet_base.specs.Order.{Graph, IsVisit, HasEdge, order_of, second_visit, other_side, turned}
+use Rattle.fleet_base.specs.Order.{Graph, IsVisit, HasEdge, order_of, second_visit, turned}
 use Rattle.fleet_base.specs.Open.{is_open, is_settled}
 use Rattle.fleet_base.specs.State.{FleetState, arrived, released, released_count, delay_of}
 use Rattle.fleet_base.specs.Rules.{IsFleetState}
