@@ -33,6 +33,14 @@ pub heard_clock : (x : FleetState) (report : Report) → (heard_of x report).clo
 heard_clock x (Arrive i k tick) = refl
 heard_clock x (Delay i k extra tick) = refl
 
+-- no event changes the window
+heard_window : (x : FleetState) (report : Report) → (heard_of x report).window ≡ x.window
+heard_window x (Arrive i k tick) = refl
+heard_window x (Delay i k extra tick) = refl
+
+pub step_window : (g : Graph) (x : FleetState) (report : Report) (switched : List PairId) (releases : List Visit) (y : FleetState) → Step g x report switched releases y → y.window ≡ x.window
+step_window g x report switched releases y step = ap (λ (z : FleetState). z.window) step.state.others ∙ heard_window x report
+
 -- the state with the report applied and the pairs turned
 abbrev pub switched_state : FleetState → Report → List PairId → FleetState
 switched_state x report switched = record (heard_of x report) { sides = turned x.sides switched }

@@ -27,3 +27,8 @@ pub fn a_heard_delay_keeps_the_rules()
     ensures { (g : Graph) (x : FleetState) (i k extra tick : ℕ) →
         IsFleetState g x → judgement_of x (Delay i k extra tick) ≡ Accept → x.count < 2 ^ 62 → IsFleetState g (heard_of x (Delay i k extra tick)) }
 {}
+
+/// No event changes the window.
+pub fn a_step_keeps_the_window()
+    ensures { (g : Graph) (x : FleetState) (report : Report) (switched : List PairId) (releases : List Visit) (x' : FleetState) → Step g x report switched releases x' → x'.window ≡ x.window }
+{}

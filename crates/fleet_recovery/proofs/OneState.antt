@@ -12,6 +12,7 @@ use Rattle.fleet_base.specs.Release.{Releases, IsLastReleasable, IsFirstState, I
 use Rattle.fleet_base.specs.Rules.{IsFleetState}
 use Rattle.fleet_base.proofs.GraphLaws.{length-map, get_or-map}
 use Rattle.fleet_core.specs.Step.{Step, heard_of, tick_of}
+use Rattle.fleet_core.proofs.Applied.{step_window}
 use Rattle.fleet_core.proofs.Delaying.{step_keeps_rules}
 use Rattle.journal_frame.specs.Entries.{Accepted}
 use Rattle.journal_frame.proofs.EntryLaws.{entry_one}
@@ -54,14 +55,6 @@ step_one g x report switched rs ss y z s one two =
     let x1 : FleetState = record (heard_of x report) { sides = turned x.sides switched } in
     let same : x1.releases ≡ x.releases = heard_releases x report in
     releases_one g (tick_of report) x1 y z (ap length same ∙ s.fleet.releases) (λ i h. omega (arith, ap (λ (rows : List (List ℕ)). length (row_of rows i)) same, s.releases.started i h, s.releases.within i h)) one.state two.state
-
--- no event changes the window
-heard_window : (x : FleetState) (report : Report) → (heard_of x report).window ≡ x.window
-heard_window x (Arrive i k tick) = refl
-heard_window x (Delay i k extra tick) = refl
-
-pub step_window : (g : Graph) (x : FleetState) (report : Report) (switched : List PairId) (releases : List Visit) (y : FleetState) → Step g x report switched releases y → y.window ≡ x.window
-step_window g x report switched releases y step = ap (λ (z : FleetState). z.window) step.state.others ∙ heard_window x report
 
 pub enters_window : (g : Graph) (x : FleetState) (payload : List ℕ) (y : FleetState) → Enters g x payload y → y.window ≡ x.window
 enters_window g x payload y e = step_window g x e.entry.report e.entry.switched e.releases y e.step
