@@ -18,14 +18,14 @@ use switch_pairs::pairs;
 use trial_base::{CROSSING, CROSSING_MAP, CROSSING_PLAN, sent_behind, session, side_a, station_of};
 
 /// More bytes than any side and any input here has.
-const LIMIT: u64 = 1 << 20;
+pub const LIMIT: u64 = 1 << 20;
 
-const TEXTS: Papers<'static> = Papers {
+pub const TEXTS: Papers<'static> = Papers {
     map: CROSSING_MAP,
     plan: CROSSING_PLAN,
 };
 
-fn settings(side_limit: u64, input_limit: u64) -> Settings {
+pub fn settings(side_limit: u64, input_limit: u64) -> Settings {
     Settings {
         budget: 0,
         quiet: false,
@@ -35,7 +35,7 @@ fn settings(side_limit: u64, input_limit: u64) -> Settings {
 }
 
 /// The plan of the crossing, with its pairs.
-fn crossing(alloc: Global) -> Result<(SoundPlan, PairTable), Fail>
+pub fn crossing(alloc: Global) -> Result<(SoundPlan, PairTable), Fail>
     ensures { IfOk result (λ made. made.1 ≡ pairs_of made.0) }
 {
     let grid = grid_of(alloc)?;
