@@ -231,7 +231,7 @@ answered_here routes s state follow counted made ending is front n report a =
     (length s.held + stands.0, omega (arith, stands.1, a.number, counted), holds_behind s.held (reports_of (take made s.turns)) stands.0 report at)
 
 pub begins_with_all : (routes : List (List PlannedVisit)) → AreRoutes routes → (life : List SessionMade) → IsLife routes life → (x : FleetState) (held : List Report) → MayBegin routes life x held → HoldsAll life x held
-begins_with_all routes r [] life x held begins = record { counted = omega (arith, ap (λ (y : FleetState). y.count) begins.0.others, ap length begins.1); answered = λ n report a. absurd (in_none a.0 a.1) }
+begins_with_all routes r [] life x held begins = record { counted = omega (arith, ap (λ (y : FleetState). y.count) begins.0.1.others, ap length begins.1); answered = λ n report a. absurd (in_none a.0 a.1) }
 begins_with_all routes r (s ∷ earlier) life x held begins = by_mark begins (λ y rs b. begins_with_all routes r earlier life.1 y rs b) (begin_good routes r earlier life.1 s.start.state s.held life.0.begins).state
   where
     by_mark : IsMarkOf routes (MayBegin routes earlier) s (record { state = x; sent = sent_of s }) held → ((y : FleetState) (rs : List Report) → MayBegin routes earlier y rs → HoldsAll earlier y rs) → IsFleetState (graph_of routes) s.start.state → HoldsAll (s ∷ earlier) x held

@@ -12,7 +12,7 @@ use Rattle.fleet_base.specs.Rules.{IsFleetState}
 use Rattle.fleet_base.specs.Bytes.{IsPrefix}
 use Rattle.fleet_base.specs.World.{Mark, IsTold, IsEverTold, release_text}
 use Rattle.fleet_base.proofs.Members.{in_none, in_one, in_cons}
-use Rattle.fleet_base.proofs.FirstState.{first_state_keeps}
+use Rattle.fleet_base.proofs.FirstState.{first_state_ahead_keeps}
 use Rattle.fleet_base.proofs.LineLaws.{AtLeast, AtLeast-append, AtLeast-less, AtLeast_by, all_of, whole_lines_sent}
 use Rattle.fleet_serve.specs.Lines.{text_of, greeting_of}
 use Rattle.fleet_serve.specs.Turns.{AreTurns, state_after, answers_of}
@@ -106,6 +106,6 @@ mark_good routes r texts may_begin before s begins turns mark held (kept made en
 
 -- each state in which a session may begin is good for all that was sent before
 pub begin_good : (routes : List (List PlannedVisit)) → AreRoutes routes → (earlier : List SessionMade) → IsLife routes earlier → (x : FleetState) (held : List Report) → MayBegin routes earlier x held → IsGood routes (texts_of earlier) x
-begin_good routes r [] life x held begins = record { state = first_state_keeps routes x r begins.0; told = λ v on h. absurd (in_none h.0 h.1) }
+begin_good routes r [] life x held begins = record { state = first_state_ahead_keeps routes x.window x r begins.0.0 begins.0.1; told = λ v on h. absurd (in_none h.0 h.1) }
 begin_good routes r (s ∷ earlier) life x held begins =
     mark_good routes r (texts_of earlier) (MayBegin routes earlier) (begin_good routes r earlier life.1) s life.0.begins life.0.turns (record { state = x; sent = sent_of s }) held begins

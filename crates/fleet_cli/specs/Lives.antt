@@ -5,8 +5,8 @@ use Rattle.fleet_base.specs.declared.geometry.PlannedVisit.{PlannedVisit}
 use Rattle.fleet_base.specs.declared.geometry.Visit.{Visit}
 use Rattle.fleet_base.specs.declared.report.Report.{Report}
 use Rattle.fleet_base.specs.Order.{Graph, graph_of}
-use Rattle.fleet_base.specs.State.{FleetState}
-use Rattle.fleet_base.specs.Release.{IsFirstState}
+use Rattle.fleet_base.specs.State.{FleetState, IsWindow}
+use Rattle.fleet_base.specs.Release.{IsFirstStateAhead}
 use Rattle.fleet_base.specs.Bytes.{IsPrefix, whole_lines}
 use Rattle.fleet_base.specs.World.{Mark, World, Event, Marked, Begun, Ended, at_start, place_of, AlwaysTrue, Run}
 use Rattle.report_text.specs.declared.answer.Answer.TheVariants.{Done}
@@ -66,10 +66,14 @@ last_sent sent (Ended i ∷ es) = last_sent sent es
 abbrev pub sent_of : SessionMade → List ℕ
 sent_of s = last_sent [] s.events
 
+-- the state in which a life begins: the plan's first one for its window
+abbrev pub IsFirst : List (List PlannedVisit) → FleetState → Type 0
+IsFirst routes x = IsWindow x.window × IsFirstStateAhead (graph_of routes) x.window x
+
 -- After these sessions, the last one first, a session may begin with sides that stand for this state, which then holds these
 -- reports: the first state if there was none, and else a state that the session before allows at what it has sent.
 abbrev pub MayBegin : List (List PlannedVisit) → List SessionMade → FleetState → List Report → Type 0
-MayBegin routes [] x held = IsFirstState (graph_of routes) x × (held ≡ [])
+MayBegin routes [] x held = IsFirst routes x × (held ≡ [])
 MayBegin routes (s ∷ earlier) x held = IsMarkOf routes (MayBegin routes earlier) s (record { state = x; sent = sent_of s }) held
 
 -- the marks among these events are those of the session, and what is sent stays sent
@@ -154,6 +158,6 @@ abbrev pub LeadTo : Graph → FleetState → List Report → FleetState → Type
 LeadTo g x [] y = y ≡ x
 LeadTo g x (report ∷ reports) z = (y : FleetState) × ((releases : List Visit) × Step g x report [] releases y) × LeadTo g y reports z
 
--- the state to which these reports lead from the first state of the plan
+-- the state to which these reports lead from a first state of the plan
 abbrev pub IsStateAfter : List (List PlannedVisit) → List Report → FleetState → Type 0
-IsStateAfter routes reports x = (first : FleetState) × IsFirstState (graph_of routes) first × LeadTo (graph_of routes) first reports x
+IsStateAfter routes reports x = (first : FleetState) × IsFirst routes first × LeadTo (graph_of routes) first reports x

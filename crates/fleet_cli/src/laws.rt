@@ -10,8 +10,8 @@ ghost use Rattle.fleet_base.specs.World.{World, Event, Run, NoCollision};
 ghost use Rattle.fleet_base.specs.declared.report.Report.{Report};
 ghost use Rattle.fleet_base.specs.Bytes.{whole_lines};
 ghost use Rattle.fleet_base.specs.Order.{graph_of};
-ghost use Rattle.fleet_base.specs.Release.{IsFirstState};
-ghost use Rattle.fleet_base.specs.State.{FleetState};
+ghost use Rattle.fleet_base.specs.Release.{IsFirstStateAhead};
+ghost use Rattle.fleet_base.specs.State.{FleetState, IsWindow};
 ghost use Rattle.report_text.specs.declared.answer.Answer.TheVariants.{Done};
 ghost use Rattle.report_text.specs.AnswerLine.{answer_line};
 ghost use Rattle.fleet_serve.specs.Lines.{greeting_of, text_of};
@@ -27,9 +27,9 @@ pub fn a_sound_plan_is_not_refused()
         IsAsked (record { tells = Unit {0}; file = file }) words command papers routes → IsCause (record { tells = Unit {0}; file = file }) ⊥ words fault → ⊥ }
 {}
 
-/// A new journal opens: there is a life of one session that has sent the greeting of the first state.
+/// A new journal opens: for each window there is a life of one session that has sent the greeting of the first state.
 pub fn a_new_journal_opens()
-    ensures { (routes : List (List PlannedVisit)) (limit : ℕ) (x : FleetState) → IsFirstState (graph_of routes) x → (s : SessionMade) × (s.limit ≡ limit) × IsLife routes (s ∷ []) × (sent_of s ≡ text_of (greeting_of routes x)) }
+    ensures { (routes : List (List PlannedVisit)) (limit window : ℕ) (x : FleetState) → IsWindow window → IsFirstStateAhead (graph_of routes) window x → (s : SessionMade) × (s.limit ≡ limit) × IsLife routes (s ∷ []) × (sent_of s ≡ text_of (greeting_of routes x)) }
 {}
 
 /// In every world beside a life whose reports are true, no two robots occupy one cell, at any point. A life may end at any event,

@@ -4,6 +4,7 @@ use Rattle.fleet_base.specs.State.{FleetState}
 use Rattle.fleet_base.specs.World.{Marked}
 use Rattle.fleet_serve.specs.Lines.{greeting_of, text_of}
 use Rattle.fleet_cli.specs.Lives.{SessionMade, kept}
+use Rattle.fleet_cli.proofs.LivesJoining.{first_of}
 use Rattle.fleet_cli.proofs.laws.a_new_journal_opens.Goals as goal
 
 opened : List (List PlannedVisit) → ℕ → FleetState → SessionMade
@@ -18,13 +19,13 @@ opened routes limit x = record {
 
 pub returns : goal.returns
 unfolding opened
-returns c = λ routes limit x first.
+returns c = λ routes limit window x may first.
     let lines = greeting_of routes x in (
       opened routes limit x,
       refl,
       (
         record {
-          begins = (first, refl);
+          begins = (first_of routes window x may first, refl);
           turns = tt;
           opens = ([], kept 0 [] (inl refl) (inl refl) refl (text_of (lines ++ []), refl) refl);
           marks = (([], kept 0 [] (inl refl) (inl refl) refl ([], append-nil (text_of lines) ∙ ap text_of (sym (append-nil lines))) refl), (text_of lines, refl), tt);
