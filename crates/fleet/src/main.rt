@@ -3,18 +3,26 @@
 
 use fleet_base::Status;
 use fleet_cli::fleet_main;
-use station_real::{RealShelf, RealSource, RealStation};
+use station_real::{RealShelf, RealSource, RealStation, StandardStreams};
 use std::process::ExitCode;
 use std::{env, io};
 
 fn main(rt: HostRuntime) -> ExitCode {
-    let status = match words(rt) {
+    let status = match StandardStreams::hold(&rt) {
+        Ok(_streams) => obey(rt),
+        // Any file might be taken for standard output.
+        Err(_) => Status::StationFault,
+    };
+    ExitCode::from(status.code())
+}
+
+fn obey(rt: HostRuntime) -> Status {
+    match words(rt) {
         Ok(words) => run(rt, &words),
         Err(error) if error.kind() == io::ErrorKind::OutOfMemory => Status::Memory,
         // Words that are no text are those of no command.
         Err(_) => run(rt, &[]),
-    };
-    ExitCode::from(status.code())
+    }
 }
 
 /// The words of the command line, without the program's own name.

@@ -1,5 +1,6 @@
 -- What is told of a real object: how often it has failed, and nothing of what it holds.
-use Rattle.std.specs.Prelude.{◌≡◌, ℕ, false, [], Result, Ok, IsErr, MatchResult}
+use Rattle.std.specs.Prelude.{◌≡◌, ℕ, false, List, [], ◌∷◌, Option, None, Some, Result, Ok, IsErr, MatchResult}
+use Rattle.std.specs.Path.{path_parent}
 use Rattle.station_api.specs.Causes.{Counts}
 use Rattle.station_api.specs.Clock.{Clock}
 use Rattle.station_api.specs.Replay.{scene, clock_of}
@@ -20,3 +21,13 @@ SameValue {T} answer result = MatchResult answer (λ (x : T). result ≡ Ok x) (
 pub record RealSourceState : Type 0 where
   pub faults : ℕ
   pub last : ℕ
+
+-- this folder, or the one that the program runs in where there is no name
+abbrev pub folder_or_here : Option (List ℕ) → List ℕ
+folder_or_here None = 46 ∷ []
+folder_or_here (Some []) = 46 ∷ []
+folder_or_here (Some (byte ∷ rest)) = byte ∷ rest
+
+-- the folder in which a file lies
+abbrev pub folder_bytes : List ℕ → List ℕ
+folder_bytes path = folder_or_here (path_parent path)

@@ -5,11 +5,14 @@
 mod fault;
 mod journal;
 mod shelf;
+mod side_file;
 mod source;
 mod station;
+mod streams;
 #[cfg(test)]
 mod tests;
 
 pub use shelf::RealShelf;
 pub use source::RealSource;
 pub use station::RealStation;
+pub use streams::StandardStreams;

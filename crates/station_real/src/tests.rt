@@ -1,10 +1,12 @@
 // The adapters over a folder of their own.
-use crate::{RealShelf, RealSource, RealStation};
+use crate::side_file::{PIECE, folder_of};
+use crate::{RealShelf, RealSource, RealStation, StandardStreams};
 use station_api::{AttachFault, DiskSide, Shelf, ShelfFault, Source, Station, sync_both};
 use std::fs::{File, OpenOptions};
 use std::process::Abort;
 use std::rt::Files;
 use std::test::Fail;
+use std::time::UNIX_EPOCH;
 use std::{env, fs, process};
 
 fn make_folder(rt: HostRuntime, name: &str) -> Result<String, Fail> {
@@ -125,12 +127,63 @@ fn a_journal_that_cannot_be_written_is_a_fault(rt: HostRuntime) -> Result<(), Fa
 }
 
 #[test]
+fn a_file_lies_in_the_folder_before_its_name(rt: HostRuntime) {
+    for (path, folder) in [
+        ("J.a", "."),
+        (".a", "."),
+        ("./J.a", "."),
+        ("d/J.a", "d"),
+        ("d/.a", "d"),
+        ("d//.a", "d"),
+        ("d/e/J.a", "d/e"),
+        ("/J.a", "/"),
+        ("/.a", "/"),
+        ("../.a", ".."),
+    ] {
+        assert_eq!(rt; folder_of(path), folder);
+    }
+}
+
+/// Syncs side A, and says whether its file was written. Its time tells it.
+fn sync_writes<S: Station>(station: &mut S, file: &File) -> Result<bool, Fail>
+    requires { S.tells → ⊥ }
+{
+    file.set_modified(UNIX_EPOCH)?;
+    station.sync(DiskSide::A)?;
+    Ok(file.metadata()?.modified()? != UNIX_EPOCH)
+}
+
+#[test]
+fn the_first_sync_writes_all_bytes_again(rt: HostRuntime) -> Result<(), Fail> {
+    let folder = make_folder(rt, "again")?;
+    let journal = format!(in rt.alloc(); "{folder}/journal")?;
+    let path = format!(in rt.alloc(); "{folder}/journal.a")?;
+    for length in [0, 1, PIECE - 1, PIECE, PIECE + 1, 2 * PIECE + 3] {
+        let mut bytes = Vec::new(rt.alloc());
+        for place in 0..length {
+            bytes.push((place % 251) as u8)?;
+        }
+        fs::write(&rt, path.as_str(), bytes.as_slice())?;
+        let file = OpenOptions::new().write(true).open(&rt, path.as_str())?;
+        let mut station = RealStation::new(rt);
+        station.attach(rt.alloc(), journal.as_str())?;
+        assert_eq!(rt; sync_writes(&mut station, &file)?, length > 0);
+        assert!(rt; !sync_writes(&mut station, &file)?);
+        assert_eq!(rt; fs::read(&rt, path.as_str())?, bytes);
+    }
+    fs::remove_dir_all(&rt, folder.as_str())?;
+    Ok(())
+}
+
+#[test]
 fn the_streams_are_read_and_written(rt: HostRuntime) -> Result<(), Fail> {
+    let streams = StandardStreams::hold(&rt)?;
     let mut station = RealStation::new(rt);
     assert_eq!(rt; station.send(b"sent\n")?, 5);
     let mut source = RealSource::new(b"ab".as_slice());
     let mut room = [0; 3];
     assert_eq!(rt; source.read(&mut room)?, 2);
     assert_eq!(rt; source.read(&mut room)?, 0);
+    drop(streams);
     Ok(())
 }
