@@ -8,11 +8,12 @@ use std::fs::File;
 use std::io;
 use std::rt::Files;
 
-/// The files `NAME.a` and `NAME.b`.
+/// The files `NAME.a` and `NAME.b`. The first call that may change one of them locks the first against other programs.
 #[derive(Drop)]
 pub struct Journal {
     a: SideFile,
     b: SideFile,
+    is_locked: bool,
 }
 
 impl Journal {
@@ -20,7 +21,18 @@ impl Journal {
         Ok(Journal {
             a: SideFile::open(rt, alloc, format!(in alloc; "{name}.a")?)?,
             b: SideFile::open(rt, alloc, format!(in alloc; "{name}.b")?)?,
+            is_locked: false,
         })
+    }
+
+    /// Another program may have made the other file since this one looked.
+    fn lock<R: Files<File = File>>(&mut self, rt: &R) -> io::Result<()> {
+        if !self.is_locked {
+            self.a.lock(rt)?;
+            self.b.look_again(rt)?;
+            self.is_locked = true;
+        }
+        Ok(())
     }
 
     fn side(&self, side: DiskSide) -> &SideFile {
@@ -54,14 +66,22 @@ impl Journal {
         at: u64,
         bytes: &[u8],
     ) -> io::Result<()> {
+        self.lock(rt)?;
         self.side_mut(side).write_at(rt, at, bytes)
     }
 
-    pub fn cut(&mut self, side: DiskSide, length: u64) -> io::Result<()> {
+    pub fn cut<R: Files<File = File>>(
+        &mut self,
+        rt: &R,
+        side: DiskSide,
+        length: u64,
+    ) -> io::Result<()> {
+        self.lock(rt)?;
         self.side_mut(side).cut(length)
     }
 
     pub fn sync<R: Files<File = File>>(&mut self, rt: &R, side: DiskSide) -> io::Result<()> {
+        self.lock(rt)?;
         self.side_mut(side).sync(rt)
     }
 }

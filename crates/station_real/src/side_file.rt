@@ -10,7 +10,7 @@ use std::os::unix::fs::FileExt;
 use std::path::Path;
 use std::rt::Files;
 
-/// A missing file has length 0, and is made by the first write.
+/// A missing file has length 0, and is made by the first write or by a lock.
 #[derive(Drop)]
 pub struct SideFile {
     path: String,
@@ -56,19 +56,27 @@ pub fn folder_of(path: &str) -> &str
     }
 }
 
+fn find<R: Files<File = File>>(rt: &R, path: &str) -> io::Result<Option<File>> {
+    match OpenOptions::new().read(true).write(true).open(rt, path) {
+        Ok(file) => Ok(Some(file)),
+        Err(error) if error.kind() == io::ErrorKind::NotFound => Ok(None),
+        Err(error) => Err(error),
+    }
+}
+
+fn find_or_make<R: Files<File = File>>(rt: &R, path: &str) -> io::Result<File> {
+    OpenOptions::new()
+        .read(true)
+        .write(true)
+        .create(true)
+        .open(rt, path)
+}
+
 impl SideFile {
     pub fn open<R: Files<File = File>>(rt: &R, alloc: Global, path: String) -> io::Result<Self>
         ensures { IfOk result (λ side. side ≡ string_bytes path) }
     {
-        let file = match OpenOptions::new()
-            .read(true)
-            .write(true)
-            .open(rt, path.as_str())
-        {
-            Ok(file) => Some(file),
-            Err(error) if error.kind() == io::ErrorKind::NotFound => None,
-            Err(error) => return Err(error),
-        };
+        let file = find(rt, path.as_str())?;
         let folder = String::from_str(alloc, folder_of(path.as_str()))?;
         Ok(SideFile {
             path,
@@ -76,6 +84,29 @@ impl SideFile {
             file,
             is_settled: false,
         })
+    }
+
+    /// Looks again for a file that was missing.
+    pub fn look_again<R: Files<File = File>>(&mut self, rt: &R) -> io::Result<()>
+        ensures { self.new ≡ self.old }
+    {
+        if self.file.is_none() {
+            self.file = find(rt, self.path.as_str())?;
+        }
+        Ok(())
+    }
+
+    /// Fails where another program, or another station of this one, has the lock. It is let go where the file is closed.
+    pub fn lock<R: Files<File = File>>(&mut self, rt: &R) -> io::Result<()>
+        ensures { self.new ≡ self.old }
+    {
+        let file = match self.file.take() {
+            Some(file) => file,
+            None => find_or_make(rt, self.path.as_str())?,
+        };
+        let answer = file.try_lock();
+        self.file = Some(file);
+        Ok(answer?)
     }
 
     pub fn length(&self) -> io::Result<u64> {
@@ -107,11 +138,7 @@ impl SideFile {
     {
         let file = match self.file.take() {
             Some(file) => file,
-            None => OpenOptions::new()
-                .read(true)
-                .write(true)
-                .create(true)
-                .open(rt, self.path.as_str())?,
+            None => find_or_make(rt, self.path.as_str())?,
         };
         let answer = file.write_all_at(bytes, at);
         self.file = Some(file);

@@ -11,6 +11,10 @@ use std::marker::Model;
 use std::rt::Files;
 
 /// The files `NAME.a` and `NAME.b` of a journal, and standard output.
+///
+/// The first sync, write or cut of a side after an `attach` locks the journal, for as long as this station has it. To that end
+/// it makes a missing `NAME.a`, empty. Where another program has the lock, or the file system knows no locks, the call is a
+/// fault. Reads ask for no lock.
 #[derive(Drop)]
 pub struct RealStation<R> {
     rt: R,
@@ -111,7 +115,7 @@ impl<R: Files<File = File> + Print> Station for RealStation<R> {
 
     fn cut(&mut self, side: DiskSide, length: u64) -> Result<(), Failed> {
         let answer = match &mut self.journal {
-            Some(journal) => journal.cut(side, length),
+            Some(journal) => journal.cut(&self.rt, side, length),
             None => Err(not_attached()),
         };
         counted(&mut self.faults, answer)

@@ -67,8 +67,11 @@ fn assert_cannot_be_made<S: Station>(rt: &impl Abort, station: &mut S) -> Result
     requires { S.tells → ⊥ }
 {
     assert_eq!(rt; station.length(DiskSide::A)?, 0);
-    sync_both(station)?;
     assert!(rt; station.write_at(DiskSide::A, 0, b"a").is_err());
+    assert!(rt; station.cut(DiskSide::A, 0).is_err());
+    assert_eq!(rt; station.length(DiskSide::A)?, 0);
+    assert!(rt; station.sync(DiskSide::A).is_err());
+    assert!(rt; station.length(DiskSide::A).is_err());
     Ok(())
 }
 
@@ -81,6 +84,7 @@ fn a_journal_lies_in_two_files(rt: HostRuntime) -> Result<(), Fail> {
     station.attach(rt.alloc(), journal.as_str())?;
     assert_keeps_bytes(&rt, &mut station)?;
     assert_fetches(&rt, folder.as_str())?;
+    drop(station);
     let mut next = RealStation::new(rt);
     next.attach(rt.alloc(), journal.as_str())?;
     assert_goes_on(&rt, &mut next)?;
@@ -122,6 +126,42 @@ fn a_journal_that_cannot_be_written_is_a_fault(rt: HostRuntime) -> Result<(), Fa
     let path = format!(in rt.alloc(); "{folder}/shut.a")?;
     let writes = make_read_only(&rt, path.as_str())?;
     assert_eq!(rt; attach(&rt, folder.as_str(), "shut")?.is_none(), writes);
+    fs::remove_dir_all(&rt, folder.as_str())?;
+    Ok(())
+}
+
+/// Over a journal that another station has: it is read, and nothing else.
+fn assert_is_locked_out<S: Station>(rt: &impl Abort, station: &mut S) -> Result<(), Fail>
+    requires { S.tells → ⊥ }
+{
+    assert!(rt; station.write_at(DiskSide::A, 0, b"z").is_err());
+    assert!(rt; station.cut(DiskSide::A, 0).is_err());
+    let mut room = [0; 4];
+    assert_eq!(rt; station.read(DiskSide::A, 0, &mut room)?, 3);
+    assert_eq!(rt; room, *b"abc\0");
+    assert!(rt; station.sync(DiskSide::B).is_err());
+    assert!(rt; station.length(DiskSide::A).is_err());
+    Ok(())
+}
+
+#[test]
+fn a_journal_has_one_station_at_a_time(rt: HostRuntime) -> Result<(), Fail> {
+    let folder = make_folder(rt, "lock")?;
+    let journal = format!(in rt.alloc(); "{folder}/journal")?;
+    let mut first = RealStation::new(rt);
+    let mut second = RealStation::new(rt);
+    first.attach(rt.alloc(), journal.as_str())?;
+    second.attach(rt.alloc(), journal.as_str())?;
+    first.sync(DiskSide::A)?;
+    first.write_at(DiskSide::A, 0, b"abc")?;
+    assert_eq!(rt; second.length(DiskSide::A)?, 0);
+    second.attach(rt.alloc(), journal.as_str())?;
+    assert_is_locked_out(&rt, &mut second)?;
+    second.attach(rt.alloc(), journal.as_str())?;
+    first.write_at(DiskSide::B, 0, b"b")?;
+    drop(first);
+    second.sync(DiskSide::A)?;
+    assert_eq!(rt; second.length(DiskSide::B)?, 1);
     fs::remove_dir_all(&rt, folder.as_str())?;
     Ok(())
 }
