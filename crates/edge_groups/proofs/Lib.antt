@@ -1,0 +1,6 @@
+pub mod Agreeing
+pub mod Ascending
+pub mod CorridorMates
+pub mod RankLaws
+pub mod Rows
+pub mod Spreading

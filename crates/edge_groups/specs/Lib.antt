@@ -1,0 +1,6 @@
+pub mod Mates
+pub mod Names
+pub mod Ranks
+pub mod Finding
+pub mod Naming
+pub mod Kept
