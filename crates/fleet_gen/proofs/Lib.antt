@@ -1,0 +1,12 @@
+pub mod Chains
+pub mod Beside
+pub mod Ends
+pub mod Courses
+pub mod Ways
+pub mod Drawing
+pub mod Turns
+pub mod Drawn
+pub mod Accepting
+pub mod Generated
+pub mod OnePlan
+pub mod Stretches
