@@ -3,14 +3,15 @@ use Rattle.std.proofs.Common.{ℕ, suc, zero, ◌≡◌, ◌≢◌, ◌<◌, ◌
 use Rattle.std.specs.Prelude.{slice_get}
 use Rattle.std.proofs.lemmas.List.{take_all, take-take, length-take-le}
 use Rattle.cert_tree.specs.declared.node.Node.{Node}
-use Rattle.cert_check.specs.Decisions.{Decision}
+use Rattle.cert_tree.specs.Decisions.{Decision}
 use Rattle.cert_check.specs.declared.verdict.NoWhy.{NoWhy}
 use Rattle.cert_check.specs.declared.verdict.NoWhy.TheVariants.{Shape}
-use Rattle.cert_check.specs.Verdicts.{ways_left, ways_at, Fits, rank_of, IsEarlier, IsFirstFault}
+use Rattle.cert_check.specs.Verdicts.{Fits, rank_of, IsEarlier, IsFirstFault}
+use Rattle.cert_tree.specs.Preorder.{ways_left, ways_at}
 use Rattle.cert_check.specs.Verdicts.Fits.{after_the_end, too_early, at_node, in_whole}
 use Rattle.std.proofs.lemmas.Option.{slice_get_within}
-use Rattle.cert_check.specs.Judging.{EachListed}
-use Rattle.cert_check.proofs.Preorder.{met_at, not_after}
+use Rattle.cert_tree.specs.Preorder.{EachListed}
+use Rattle.cert_tree.proofs.Preorder.{met_at, not_after}
 
 take_get : {X : Type 0} (xs : List X) (j k : ℕ) (x : X) → j < k → slice_get xs j ≡ Some x → slice_get (take k xs) j ≡ Some x
 take_get [] j k x h e = cc

@@ -19,17 +19,17 @@ use Rattle.cert_check.specs.declared.judge.Kind.{Kind}
 use Rattle.cert_check.specs.declared.judge.Kind.TheVariants as kind
 use Rattle.cert_check.specs.declared.verdict.NoWhy.{NoWhy}
 use Rattle.cert_check.specs.declared.verdict.NoWhy.TheVariants.{Shape, Pair, Cycle, Path, Sum, Leaf, Needed}
-use Rattle.cert_check.specs.Decisions.{Decision, side_on, order_on, IsFree}
-use Rattle.cert_check.specs.Paths.{ArePaths, total_length}
+use Rattle.cert_tree.specs.Decisions.{Decision, side_on, order_on, IsFree}
+use Rattle.cert_tree.specs.Paths.{ArePaths, total_length}
 use Rattle.cert_check.specs.Sides.{decided, order_by}
-use Rattle.cert_check.specs.Trees.{force_to, IsAcyclic, IsNeeded, IsLeftOpen}
-use Rattle.cert_check.proofs.Lawful.{listed}
-use Rattle.cert_check.proofs.Walks.{tail_there}
+use Rattle.cert_tree.specs.Trees.{force_to, IsAcyclic, IsNeeded, IsLeftOpen}
+use Rattle.cert_tree.proofs.Lawful.{listed}
+use Rattle.cert_tree.proofs.Walks.{tail_there}
 use Rattle.fleet_base.proofs.Edges.{head_there}
 use Rattle.fleet_base.proofs.OpenPairs.{open_goes_on}
-use Rattle.cert_check.proofs.EdgeLaws.{visit_before}
-use Rattle.cert_check.specs.Verdicts.{rank_of, IsFault, IsOptimalFault, IsSpentFault}
-use Rattle.cert_check.specs.Judging.{Gives, Judges, MeetsAs, FailsAs, IsJudged}
+use Rattle.cert_tree.proofs.EdgeLaws.{visit_before}
+use Rattle.cert_check.specs.Verdicts.{rank_of, IsFault, IsOptimalFault}
+use Rattle.cert_check.specs.Judging.{Gives, Judges, IsFaultAlone, MeetsAlone, FailsAlone, IsJudged}
 use Rattle.fleet_base.proofs.Costs.{one_least, cost_of_least, one_cost}
 use Rattle.cert_check.specs.Sides.{HasSides}
 use Rattle.cert_check.proofs.SideLaws.{same_order, keeps, open_within}
@@ -85,11 +85,11 @@ module _ (g : Graph) (x : FleetState) (cost : ℕ) (way : List Decision) where
   branch_low q Shape lt f = f
   branch_low q w lt f = omega (arith, lt)
 
-  branch_low_spent : (least : ℕ) (q : PairId) (w : NoWhy) → rank_of w < 1 → IsSpentFault g x cost least way (Branch q) w → ⊥
+  branch_low_spent : (least : ℕ) (q : PairId) (w : NoWhy) → rank_of w < 1 → IsFaultAlone g x cost least way (Branch q) w → ⊥
   branch_low_spent least q Shape lt f = f
   branch_low_spent least q w lt f = omega (arith, lt)
 
-  branch_mid : (least : ℕ) (q : PairId) → IsFree g x way q.0 → (w : NoWhy) → rank_of w < 6 → IsSpentFault g x cost least way (Branch q) w → ⊥
+  branch_mid : (least : ℕ) (q : PairId) → IsFree g x way q.0 → (w : NoWhy) → rank_of w < 6 → IsFaultAlone g x cost least way (Branch q) w → ⊥
   branch_mid least q free Shape lt f = f
   branch_mid least q free Pair lt f = f free
   branch_mid least q free Cycle lt f = f
@@ -106,7 +106,7 @@ module _ (g : Graph) (x : FleetState) (cost : ℕ) (way : List Decision) where
   leaf_low v Sum lt f = f
   leaf_low v w lt f = omega (arith, lt)
 
-  leaf_low_spent : (least v : ℕ) (w : NoWhy) → rank_of w < 5 → IsSpentFault g x cost least way (OpenLeaf v) w → ⊥
+  leaf_low_spent : (least v : ℕ) (w : NoWhy) → rank_of w < 5 → IsFaultAlone g x cost least way (OpenLeaf v) w → ⊥
   leaf_low_spent least v Shape lt f = f
   leaf_low_spent least v Pair lt f = f
   leaf_low_spent least v Cycle lt f = f
@@ -135,9 +135,9 @@ module _ (g : Graph) (x : FleetState) (sides : List (Option Side)) where
 
   -- a cycle
   pub cyclic_judged : (cycle : List PairId) (is : Bool) (found : Option NoWhy) → (is ≡ true → IsCycle g (order_by g x sides) cycle) × (IsCycle g (order_by g x sides) cycle → is ≡ true) → found ≡ cond is None (Some Cycle) → (cost : ℕ) (k : Kind) → IsJudged g x cost k sides (Cyclic cycle) found
-  cyclic_judged cycle is found test e cost k way gives = subst (λ o. Judges (MeetsAs g x cost k way (Cyclic cycle)) (FailsAs g x cost k way (Cyclic cycle)) o) (sym e) (go is test k)
+  cyclic_judged cycle is found test e cost k way gives = subst (λ o. Judges (MeetsAlone g x cost k way (Cyclic cycle)) (FailsAlone g x cost k way (Cyclic cycle)) o) (sym e) (go is test k)
     where
-      go : (b : Bool) → (b ≡ true → IsCycle g (order_by g x sides) cycle) × (IsCycle g (order_by g x sides) cycle → b ≡ true) → (k : Kind) → Judges (MeetsAs g x cost k way (Cyclic cycle)) (FailsAs g x cost k way (Cyclic cycle)) (cond b None (Some Cycle))
+      go : (b : Bool) → (b ≡ true → IsCycle g (order_by g x sides) cycle) × (IsCycle g (order_by g x sides) cycle → b ≡ true) → (k : Kind) → Judges (MeetsAlone g x cost k way (Cyclic cycle)) (FailsAlone g x cost k way (Cyclic cycle)) (cond b None (Some Cycle))
       go true t kind.Optimal = (on way gives (λ o. IsCycle g o cycle) (t.0 refl), tt)
       go true t (kind.Spent least) = (on way gives (λ o. IsCycle g o cycle) (t.0 refl), tt)
       go false t kind.Optimal = (λ c. (let z = t.1 (by way gives (λ o. IsCycle g o cycle) c) in cc), λ w lt f. cyclic_low g x cost way cycle w lt f)
@@ -194,7 +194,7 @@ module _ (g : Graph) (x : FleetState) (sides : List (Option Side)) where
       go (inr n) = get_or-set_other sides q.0 r (Some s) None (λ e. n (sym e)) ∙ gives r ∙ sym (ap (λ b. cond b (Some s) (side_on way r)) (ne_eqb q.0 r n))
 
   pub force_judged : (q : PairId) (s : Side) (cycle : List PairId) (is : Bool) (found : Option NoWhy) → (is_open g x q.0 ≡ true) × (decided sides q.0 ≡ None) → q.0 < length sides → (is ≡ true → IsCycle g (order_by g x (set sides q.0 (Some (other_side s)))) cycle) × (IsCycle g (order_by g x (set sides q.0 (Some (other_side s)))) cycle → is ≡ true) → found ≡ cond is None (Some Cycle) → (cost : ℕ) (k : Kind) → IsJudged g x cost k sides (Force q s cycle) found
-  force_judged q s cycle is found free inside test e cost k way gives = subst (λ o. Judges (MeetsAs g x cost k way (Force q s cycle)) (FailsAs g x cost k way (Force q s cycle)) o) (sym e) (go is test k)
+  force_judged q s cycle is found free inside test e cost k way gives = subst (λ o. Judges (MeetsAlone g x cost k way (Force q s cycle)) (FailsAlone g x cost k way (Force q s cycle)) o) (sym e) (go is test k)
     where
       same : order_by g x (set sides q.0 (Some (other_side s))) ≡ order_on g x (force_to q (other_side s) ∷ way)
       same = same_order g x (force_to q (other_side s) ∷ way) (set sides q.0 (Some (other_side s))) (forced_gives q (other_side s) way gives inside)
@@ -205,7 +205,7 @@ module _ (g : Graph) (x : FleetState) (sides : List (Option Side)) where
       back : IsCycle g (order_on g x (force_to q (other_side s) ∷ way)) cycle → IsCycle g (order_by g x (set sides q.0 (Some (other_side s)))) cycle
       back c = subst (λ (o : ℕ → Option Side). IsCycle g o cycle) (sym same) c
 
-      go : (b : Bool) → (b ≡ true → IsCycle g (order_by g x (set sides q.0 (Some (other_side s)))) cycle) × (IsCycle g (order_by g x (set sides q.0 (Some (other_side s)))) cycle → b ≡ true) → (k : Kind) → Judges (MeetsAs g x cost k way (Force q s cycle)) (FailsAs g x cost k way (Force q s cycle)) (cond b None (Some Cycle))
+      go : (b : Bool) → (b ≡ true → IsCycle g (order_by g x (set sides q.0 (Some (other_side s)))) cycle) × (IsCycle g (order_by g x (set sides q.0 (Some (other_side s)))) cycle → b ≡ true) → (k : Kind) → Judges (MeetsAlone g x cost k way (Force q s cycle)) (FailsAlone g x cost k way (Force q s cycle)) (cond b None (Some Cycle))
       go true t kind.Optimal = ((free_on way gives q.0 free, there (t.0 refl)), tt)
       go true t (kind.Spent least) = ((free_on way gives q.0 free, there (t.0 refl)), tt)
       go false t kind.Optimal = (λ c. (let z = t.1 (back c) in cc), λ w lt f. force_mid g x cost way q s cycle (free_on way gives q.0 free) w lt f)

@@ -17,13 +17,12 @@ use Rattle.std.specs.Prelude.{Contains, slice_index_or, sum_by}
 use Rattle.fleet_base.specs.Schedule.{IsSchedule, Obeys, ObeysEdge, IsLeastSchedule}
 use Rattle.fleet_base.specs.declared.order.Edge.{Edge}
 use Rattle.fleet_base.specs.Paths.{edge_in}
-use Rattle.cert_check.specs.Orders.{KeepsClosed}
+use Rattle.cert_tree.specs.Orders.{KeepsClosed}
 use Rattle.fleet_base.proofs.Walking.{edge_has, edge_is}
-use Rattle.cert_check.proofs.EdgeLaws.{visit}
-use Rattle.plan_graph.proofs.Numbers.{same_visit-true}
+use Rattle.cert_tree.proofs.EdgeLaws.{visit}
 use Rattle.std.proofs.lemmas.Option.{slice_get_within}
-use Rattle.cert_check.proofs.Places.{place_in, stands, earlier, same_visit_refl}
-use Rattle.cert_check.proofs.Walks.{tail_there}
+use Rattle.cert_tree.proofs.Places.{place_in, stands, earlier, same_visit_is, same_visit_refl}
+use Rattle.cert_tree.proofs.Walks.{tail_there}
 
 module _ (g : Graph) (x : FleetState) (order : ℕ → Option Side) where
   abbrev floor : Visit → ℕ
@@ -79,7 +78,7 @@ module _ (g : Graph) (x : FleetState) (order : ℕ → Option Side) where
         where
           at : (b : Bool) → same_visit h.head v ≡ b → cond b (f h.tail + duration_of x v) 0 ≤ m
           at false s = omega arith
-          at true s = each n h.tail (subst (λ (w : Visit). HasEdge g order n h.tail w) (same_visit-true h.head v s) (edge_has g order n h e))
+          at true s = each n h.tail (subst (λ (w : Visit). HasEdge g order n h.tail w) (same_visit_is h.head v s) (edge_has g order n h e))
 
   along_within : (f : Visit → ℕ) (v : Visit) (m k : ℕ) → ((j : ℕ) → k ≡ suc j → f (visit v.robot j) + duration_of x v ≤ m) → along_bound f v k ≤ m
   along_within f v m zero each = omega arith
@@ -260,7 +259,7 @@ others_stay v [] w h ne = absurd (in_none w h)
 others_stay v (y ∷ ys) w h ne = go (same_visit y v) refl (in_cons y ys w h) (λ r. others_stay v ys w r ne)
   where
     go : (b : Bool) → same_visit y v ≡ b → (y ≡ w) ⊎ Contains ys w → (Contains ys w → Contains (without v ys) w) → Contains (cond b (without v ys) (y ∷ without v ys)) w
-    go true e (inl s) rest = absurd (ne (sym s ∙ same_visit-true y v e))
+    go true e (inl s) rest = absurd (ne (sym s ∙ same_visit_is y v e))
     go true e (inr r) rest = rest r
     go false e (inl s) rest = subst (λ (z : Visit). Contains (y ∷ without v ys) z) s (head_in y (without v ys))
     go false e (inr r) rest = tail_in y (without v ys) w (rest r)

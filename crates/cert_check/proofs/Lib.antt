@@ -1,13 +1,5 @@
-pub mod EdgeLaws
-pub mod Places
-pub mod Lawful
-pub mod PathBound
-pub mod TreeBound
-pub mod SoundOrders
-pub mod Preorder
 pub mod FirstFault
 pub mod OneVerdict
-pub mod Walks
 pub mod Least
 pub mod SideLaws
 pub mod WayLaws
@@ -15,6 +7,11 @@ pub mod CycleLaws
 pub mod WalkLaws
 pub mod WholeLaws
 pub mod RoundLaws
+pub mod SumLaws
+pub mod WorkLaws
+pub mod CostLaws
+pub mod GroupLaws
+pub mod TwoRules
 pub mod ForgetLaws
 pub mod AskLaws
 pub mod PathLaws

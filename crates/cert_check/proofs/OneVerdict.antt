@@ -8,17 +8,19 @@ use Rattle.fleet_base.specs.State.{FleetState}
 use Rattle.fleet_base.proofs.Members.{in_none}
 use Rattle.cert_tree.specs.declared.node.Node.{Node}
 use Rattle.cert_tree.specs.declared.node.Node.TheVariants.{Branch, Force, Cyclic, Bound, OpenLeaf}
-use Rattle.cert_check.specs.Decisions.{Decision}
-use Rattle.cert_check.specs.Trees.{Tree, nodes_of, EachNode, IsRight, IsClosing, IsSpent, IsSpentTree}
+use Rattle.cert_tree.specs.Decisions.{Decision}
+use Rattle.cert_tree.specs.GroupRules.{KeepsGroups, IsGroupedTree}
+use Rattle.cert_tree.specs.Trees.{Tree, nodes_of, EachNode, IsRight, IsClosing, IsSpent, IsSpentTree}
 use Rattle.cert_check.specs.declared.verdict.NoWhy.{NoWhy}
 use Rattle.cert_check.specs.declared.verdict.NoWhy.TheVariants.{Shape, Pair, Cycle, Path, Sum, Leaf, Needed, Group, Count, Least, Order, Cost}
 use Rattle.cert_check.specs.declared.verdict.Verdict.{Verdict}
 use Rattle.cert_check.specs.declared.verdict.Verdict.TheVariants.{Yes, No}
-use Rattle.cert_check.specs.Verdicts.{ways_left, IsFault, IsOptimalFault, IsSpentFault, IsSpentWholeFault, IsNoFault, Fits, rank_of, IsFirstFault, OptimalVerdict, SpentVerdict, branches_in, left_in}
+use Rattle.cert_check.specs.Verdicts.{IsFault, IsOptimalFault, IsSpentFault, IsSpentWholeFault, IsNoFault, Fits, rank_of, IsFirstFault, OptimalVerdict, SpentVerdict}
+use Rattle.cert_tree.specs.Preorder.{ways_left, branches_in, left_in}
 use Rattle.cert_check.specs.Verdicts.Fits.{after_the_end, too_early, at_node, in_whole}
-use Rattle.cert_check.proofs.TreeBound.{both_rules}
-use Rattle.cert_check.specs.Judging.{EachListed}
-use Rattle.cert_check.proofs.Preorder.{each_of_tree, met_at, not_after, ways_of_tree, branches_of_tree, left_of_tree}
+use Rattle.cert_tree.proofs.TreeBound.{both_rules}
+use Rattle.cert_tree.specs.Preorder.{EachListed}
+use Rattle.cert_tree.proofs.Preorder.{each_of_tree, met_at, not_after, ways_of_tree, branches_of_tree, left_of_tree}
 
 -- where each node meets the rules that exclude the faults, and so does the whole, no word fits
 module _ (meets : List Decision → Node → Type 0) (rule : List Decision → Node → NoWhy → Type 0) (whole : NoWhy → Type 0)
@@ -34,7 +36,7 @@ module _ (meets : List Decision → Node → Type 0) (rule : List Decision → N
   nothing_fits nodes tree _ _ e m (in_whole why f) = complete why f
 
 -- a node that is right has no fault
-right_excludes : (g : Graph) (x : FleetState) (cost : ℕ) (way : List Decision) (node : Node) (why : NoWhy) → IsRight g x cost way node → IsFault g x cost way node why → ⊥
+pub right_excludes : (g : Graph) (x : FleetState) (cost : ℕ) (way : List Decision) (node : Node) (why : NoWhy) → IsRight g x cost way node → IsFault g x cost way node why → ⊥
 right_excludes g x cost way (Branch q) Pair m f = f m
 right_excludes g x cost way (Force q side cycle) Pair m f = f m.0
 right_excludes g x cost way (Force q side cycle) Cycle m f = f m.1
@@ -47,10 +49,12 @@ pub optimal_excludes : (g : Graph) (x : FleetState) (cost : ℕ) (way : List Dec
 optimal_excludes g x cost way (OpenLeaf v) Leaf m f = m.1
 optimal_excludes g x cost way node why m f = right_excludes g x cost way node why m.0 f
 
-pub spent_excludes : (g : Graph) (x : FleetState) (cost least : ℕ) (way : List Decision) (node : Node) (why : NoWhy) → IsRight g x cost way node × IsSpent g x cost least way node → IsSpentFault g x cost least way node why → ⊥
-spent_excludes g x cost least way (OpenLeaf v) Leaf m f = f m.1
-spent_excludes g x cost least way (Branch q) Needed m f = f m.1
-spent_excludes g x cost least way node why m f = right_excludes g x cost way node why m.0 f
+pub spent_excludes : (g : Graph) (x : FleetState) (cost least : ℕ) (way : List Decision) (node : Node) (why : NoWhy) → (IsRight g x cost way node × IsSpent g x cost least way node) × KeepsGroups g x way node → IsSpentFault g x cost least way node why → ⊥
+spent_excludes g x cost least way (OpenLeaf v) Leaf m (inl f) = f m.0.1
+spent_excludes g x cost least way (OpenLeaf v) Leaf m (inr f) = f m.1
+spent_excludes g x cost least way (Branch q) Needed m f = f m.0.1
+spent_excludes g x cost least way (Branch q) Group m f = f m.1
+spent_excludes g x cost least way node why m f = right_excludes g x cost way node why m.0.0 f
 
 whole_excludes : (g : Graph) (x : FleetState) (cost least budget : ℕ) (nodes : List Node) (tree : Tree) (why : NoWhy) → nodes ≡ nodes_of tree → IsSpentTree g x cost least budget tree → IsSpentWholeFault least budget nodes why → ⊥
 whole_excludes g x cost least budget nodes tree Count e t (inl f) = f (ap branches_in e ∙ branches_of_tree tree ∙ t.branches)
@@ -112,14 +116,15 @@ one_optimal_verdict g x cost nodes Yes (No k why) a b = absurd (nothing_fits (λ
 one_optimal_verdict g x cost nodes (No k why) Yes a b = absurd (nothing_fits (λ way node. IsRight g x cost way node × IsClosing node) (IsOptimalFault g x cost) IsNoFault (optimal_excludes g x cost) (λ why f. f) nodes b.0 k why b.1 b.2 a.here)
 one_optimal_verdict g x cost nodes (No j a) (No k b) f h = no_equal j k a b (one_first (Fits (IsOptimalFault g x cost) IsNoFault nodes) j k a b f h)
 
-spent_fits_not : (g : Graph) (x : FleetState) (cost least budget : ℕ) (nodes : List Node) (tree : Tree) (k : ℕ) (why : NoWhy) → nodes ≡ nodes_of tree → IsSpentTree g x cost least budget tree
+spent_fits_not : (g : Graph) (x : FleetState) (cost least budget : ℕ) (nodes : List Node) (tree : Tree) (k : ℕ) (why : NoWhy) → nodes ≡ nodes_of tree → IsSpentTree g x cost least budget tree → IsGroupedTree g x tree
     → Fits (IsSpentFault g x cost least) (IsSpentWholeFault least budget nodes) nodes k why → ⊥
-spent_fits_not g x cost least budget nodes tree k why e t f =
-    nothing_fits (λ way node. IsRight g x cost way node × IsSpent g x cost least way node) (IsSpentFault g x cost least) (IsSpentWholeFault least budget nodes) (spent_excludes g x cost least)
-    (λ w h. whole_excludes g x cost least budget nodes tree w e t h) nodes tree k why e (both_rules (IsRight g x cost) (IsSpent g x cost least) tree [] t.right t.spent) f
+spent_fits_not g x cost least budget nodes tree k why e t groups f =
+    nothing_fits (λ way node. (IsRight g x cost way node × IsSpent g x cost least way node) × KeepsGroups g x way node) (IsSpentFault g x cost least) (IsSpentWholeFault least budget nodes) (spent_excludes g x cost least)
+    (λ w h. whole_excludes g x cost least budget nodes tree w e t h) nodes tree k why e
+    (both_rules (λ way node. IsRight g x cost way node × IsSpent g x cost least way node) (KeepsGroups g x) tree [] (both_rules (IsRight g x cost) (IsSpent g x cost least) tree [] t.right t.spent) groups) f
 
 pub one_spent_verdict : (g : Graph) (x : FleetState) (cost least budget : ℕ) (nodes : List Node) (v w : Verdict) → SpentVerdict g x cost least budget nodes v → SpentVerdict g x cost least budget nodes w → v ≡ w
 one_spent_verdict g x cost least budget nodes Yes Yes a b = refl
-one_spent_verdict g x cost least budget nodes Yes (No k why) a b = absurd (spent_fits_not g x cost least budget nodes a.0 k why a.1 a.2 b.here)
-one_spent_verdict g x cost least budget nodes (No k why) Yes a b = absurd (spent_fits_not g x cost least budget nodes b.0 k why b.1 b.2 a.here)
+one_spent_verdict g x cost least budget nodes Yes (No k why) a b = absurd (spent_fits_not g x cost least budget nodes a.0 k why a.1 a.2 a.3 b.here)
+one_spent_verdict g x cost least budget nodes (No k why) Yes a b = absurd (spent_fits_not g x cost least budget nodes b.0 k why b.1 b.2 b.3 a.here)
 one_spent_verdict g x cost least budget nodes (No j a) (No k b) f h = no_equal j k a b (one_first (Fits (IsSpentFault g x cost least) (IsSpentWholeFault least budget nodes) nodes) j k a b f h)

@@ -11,9 +11,9 @@ use Rattle.fleet_base.specs.Order.{Graph}
 use Rattle.fleet_base.specs.State.{FleetState}
 use Rattle.cert_tree.specs.declared.node.CertPath.{CertPath}
 use Rattle.fleet_base.specs.Paths.{path_length}
-use Rattle.cert_check.specs.Paths.{path_for, length_for, ArePaths, total_length}
+use Rattle.cert_tree.specs.Paths.{path_for, length_for, ArePaths, total_length}
 use Rattle.cert_check.specs.Judging.{TakesPath}
-use Rattle.cert_check.proofs.Walks.{sum_more}
+use Rattle.cert_tree.proofs.Walks.{sum_more}
 
 abbrev pub robots_of : List CertPath → List ℕ
 robots_of paths = map (λ p. p.robot) paths

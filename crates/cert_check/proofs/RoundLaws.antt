@@ -13,12 +13,11 @@ use Rattle.fleet_base.specs.Schedule.{IsLeastSchedule}
 use Rattle.plan_graph.specs.Limits.{visit_count, IsWithinLimits}
 use Rattle.plan_graph.proofs.PlanGraphs.{index_within}
 use Rattle.fleet_base.specs.declared.order.Edge.{Edge}
-use Rattle.cert_check.specs.Orders.{KeepsClosed}
+use Rattle.cert_tree.specs.Orders.{KeepsClosed}
 use Rattle.fleet_base.specs.Paths.{edge_in}
 use Rattle.cert_check.specs.Rounds.{floor, along_bound, edge_bound, pair_bound, raised, rounds, ticks_of, HasTicks, IsLow, IsPast, IsBelow, HasRounds, IsSettled, KeepsRows, Raises, RaisesAll}
 use Rattle.cert_check.proofs.Least.{raised_le, raised_below, raised_arrived, raised_ahead, nothing_to_raise, settled}
-use Rattle.plan_graph.proofs.Numbers.{same_visit-true}
-use Rattle.cert_check.proofs.Places.{same_visit_refl}
+use Rattle.cert_tree.proofs.Places.{same_visit_is, same_visit_refl}
 
 -- ---- rows of ticks
 
@@ -183,7 +182,7 @@ module _ (g : Graph) (x : FleetState) (order : ℕ → Option Side) (state : IsF
         is_it u = go (same_visit u v) refl
           where
             go : (b : Bool) → same_visit u v ≡ b → (u ≡ v) ⊎ (¬ (u ≡ v))
-            go true e = inl (same_visit-true u v e)
+            go true e = inl (same_visit_is u v e)
             go false e = inr (λ s. let t = same_visit_refl u v s in cc)
 
         here : (u : Visit) → u ≡ v → new u ≡ max (mid u) (raised g x order mid u)

@@ -9,13 +9,13 @@ use Rattle.fleet_base.specs.State.{FleetState}
 use Rattle.fleet_base.specs.Open.{is_open}
 use Rattle.fleet_base.specs.Rules.{IsFleetState}
 use Rattle.fleet_base.specs.Schedule.{decision_order}
-use Rattle.cert_check.specs.Decisions.{Decision, order_on}
-use Rattle.cert_check.specs.Orders.{KeepsClosed}
+use Rattle.cert_tree.specs.Decisions.{Decision, order_on}
+use Rattle.cert_tree.specs.Orders.{KeepsClosed}
 use Rattle.cert_check.specs.Sides.{decided, order_by}
 use Rattle.cert_check.specs.Judging.{Gives}
 use Rattle.fleet_base.proofs.OpenPairs.{open_listed}
 use Rattle.std.proofs.lemmas.Option.{slice_get_within}
-use Rattle.cert_check.proofs.Walks.{tail_there}
+use Rattle.cert_tree.proofs.Walks.{tail_there}
 
 -- decided pairs leave the closed ones their sides
 pub keeps : (g : Graph) (x : FleetState) (sides : List (Option Side)) → KeepsClosed g x (order_by g x sides)

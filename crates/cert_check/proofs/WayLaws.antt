@@ -1,17 +1,19 @@
 -- Decisions are of pairs that differ, so there is room for them.
-use Rattle.std.proofs.Common.{ℕ, suc, ◌≡◌, ◌≢◌, ◌<◌, ◌⊎◌, List, [], ◌∷◌, Some, None, Option, true, false, Bool, cond, refl, sym, ap, ◌∙◌, subst, inl, inr, arith, length, map, eqb, set, get_or}
-use Rattle.std.specs.Prelude.{Contains}
+use Rattle.std.proofs.Common.{ℕ, suc, ◌≡◌, ◌≢◌, ◌<◌, ◌⊎◌, List, [], ◌∷◌, Some, None, Option, true, false, Bool, cond, refl, sym, ap, ◌∙◌, subst, inl, inr, arith, length, map, reverse, eqb, set, get_or}
+use Rattle.std.specs.Prelude.{Contains, ◌≤◌, vec_len}
+use Rattle.std.specs.Vec.{vec_capacity}
 use Rattle.std.proofs.lemmas.Bool.{eq-eqb, cases_eq, ne_eqb}
 use Rattle.std.proofs.lemmas.List.{get_or-set_same, get_or-set_other}
 use Rattle.fleet_base.specs.declared.order.Side.{Side}
 use Rattle.fleet_base.proofs.Members.{in_cons, in_none}
 use Rattle.fleet_base.proofs.Sorting.{Distinct}
 use Rattle.fleet_base.proofs.Walks.{few_below}
+use Rattle.cert_check.specs.declared.way.Way.{Way}
 use Rattle.cert_check.specs.declared.way.Step.{Step}
 use Rattle.cert_check.specs.declared.way.Step.TheVariants.{Lower, Higher, Forced}
-use Rattle.cert_check.specs.Decisions.{side_on}
+use Rattle.cert_tree.specs.Decisions.{side_on}
 use Rattle.cert_check.specs.Sides.{decided}
-use Rattle.cert_check.specs.Ways.{step_pair, step_side, decision_of, way_of, AreApart, AreWithin}
+use Rattle.cert_check.specs.Ways.{step_pair, step_side, decision_of, way_of, AreApart, AreWithin, HasWay}
 
 abbrev pub pairs_of : List Step → List ℕ
 pairs_of steps = map (λ s. (step_pair s).0) steps
@@ -84,3 +86,15 @@ sides_less sides steps s same apart inside q = go (cases_eq (step_pair s).0 q)
     go : ((step_pair s).0 ≡ q) ⊎ ((step_pair s).0 ≡ q → ⊥) → decided (set sides (step_pair s).0 None) q ≡ side_on (way_of steps) q
     go (inl e) = ap (λ r. get_or (set sides (step_pair s).0 None) r None) (sym e) ∙ get_or-set_same sides (step_pair s).0 None None inside ∙ sym apart.0 ∙ ap (side_on (way_of steps)) e
     go (inr n) = get_or-set_other sides (step_pair s).0 q None None (λ e. n (sym e)) ∙ same q ∙ ap (λ c. cond c (Some (decision_of s).side) (side_on (way_of steps) q)) (ne_eqb (decision_of s).pair q (λ e. n (sym (decision_pair s) ∙ e)))
+
+-- a way with the same steps and sides is the same way
+pub has_way_kept : (old new : Way) (steps : List Step) → HasWay old steps → new.steps.items ≡ old.steps.items → vec_capacity new.steps ≡ vec_capacity old.steps → new.sides.items ≡ old.sides.items → vec_len new.sides ≡ vec_len old.sides → HasWay new (reverse new.steps.items)
+has_way_kept old new steps h s room items len =
+    let same : reverse new.steps.items ≡ steps = ap (λ (l : List Step). reverse l) s ∙ h.kept in
+    subst (λ (l : List Step). HasWay new l) (sym same) (record {
+      kept = same;
+      sides = λ q. ap (λ (l : List (Option Side)). decided l q) items ∙ h.sides q;
+      apart = h.apart;
+      within = subst (λ n. AreWithin n steps) (sym len) h.within;
+      room = omega (arith, h.room, len, room);
+    })

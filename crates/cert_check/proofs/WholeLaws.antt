@@ -8,9 +8,9 @@ use Rattle.fleet_base.proofs.Members.{head_in}
 use Rattle.fleet_base.specs.declared.order.PairId.{PairId}
 use Rattle.cert_tree.specs.declared.node.Node.{Node}
 use Rattle.cert_tree.specs.declared.node.Node.TheVariants.{Branch, Force, Cyclic, Bound, OpenLeaf}
-use Rattle.cert_check.specs.Verdicts.{branches_in, left_in}
+use Rattle.cert_tree.specs.Preorder.{branches_in, left_in}
 use Rattle.cert_check.specs.Judging.{lower_of}
-use Rattle.cert_check.proofs.Preorder.{branches-append, left-append}
+use Rattle.cert_tree.proofs.Preorder.{branches-append, left-append}
 
 -- the least of some numbers, if there is one
 abbrev pub IsLowest : List ℕ → Option ℕ → Type 0

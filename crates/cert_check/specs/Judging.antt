@@ -6,22 +6,48 @@ use Rattle.fleet_base.specs.Order.{Graph}
 use Rattle.fleet_base.specs.State.{FleetState}
 use Rattle.cert_tree.specs.declared.node.CertPath.{CertPath}
 use Rattle.cert_tree.specs.declared.node.Node.{Node}
+use Rattle.cert_tree.specs.declared.node.Node.TheVariants.{Branch, OpenLeaf}
 use Rattle.cert_check.specs.declared.judge.Kind.{Kind}
 use Rattle.cert_check.specs.declared.judge.Kind.TheVariants as kind
 use Rattle.cert_check.specs.declared.verdict.NoWhy.{NoWhy}
-use Rattle.cert_check.specs.Decisions.{Decision, side_on}
+use Rattle.cert_check.specs.declared.verdict.NoWhy.TheVariants.{Leaf, Needed, Group}
+use Rattle.cert_tree.specs.Decisions.{Decision, side_on}
 use Rattle.cert_check.specs.Sides.{decided}
-use Rattle.cert_check.specs.Trees.{IsRight, IsClosing, IsSpent}
-use Rattle.cert_check.specs.Verdicts.{ways_after, ways_left, rank_of, IsOptimalFault, IsSpentFault, IsSpentWholeFault, IsNoFault, Fits, IsFirstFault, branches_in, left_in}
+use Rattle.cert_tree.specs.Trees.{IsRight, IsClosing, IsSpent, IsNeeded, IsLeftOpen}
+use Rattle.cert_tree.specs.GroupRules.{IsNewGroup, HasGroupLeft, KeepsGroups}
+use Rattle.cert_check.specs.Verdicts.{rank_of, IsFault, IsOptimalFault, IsSpentFault, IsSpentWholeFault, IsNoFault, Fits, IsFirstFault}
+use Rattle.cert_tree.specs.Preorder.{ways_left, branches_in, left_in, EachListed}
 
 -- the path at a place is that of the robot and is taken, or it is none of this robot
 abbrev pub TakesPath : List CertPath → ℕ → ℕ → List PairId → ℕ → Type 0
 TakesPath paths place robot pairs after = ((p : CertPath) × (slice_get paths place ≡ Some p) × (p.robot ≡ robot) × (pairs ≡ p.pairs) × (after ≡ place + 1)) ⊎ (((p : CertPath) → slice_get paths place ≡ Some p → p.robot ≢ robot) × (pairs ≡ []) × (after ≡ place))
 
+-- what the words say of a node in a spent tree, groups apart
+abbrev pub IsFaultAlone : Graph → FleetState → ℕ → ℕ → List Decision → Node → NoWhy → Type 0
+IsFaultAlone g x cost least way (OpenLeaf v) Leaf = ¬ IsLeftOpen g x cost way v
+IsFaultAlone g x cost least way (Branch q) Needed = ¬ IsNeeded g x cost least way q.0
+IsFaultAlone g x cost least way node why = IsFault g x cost way node why
+
+-- what they say of its groups
+abbrev pub IsGroupFault : Graph → FleetState → List Decision → Node → NoWhy → Type 0
+IsGroupFault g x way (OpenLeaf v) Leaf = ¬ HasGroupLeft g x way
+IsGroupFault g x way (Branch q) Group = ¬ IsNewGroup g x way q.0
+IsGroupFault g x way node why = ⊥
+
+-- what a node must meet in a tree of the kind, groups apart
+abbrev pub MeetsAlone : Graph → FleetState → ℕ → Kind → List Decision → Node → Type 0
+MeetsAlone g x cost kind.Optimal way node = IsRight g x cost way node × IsClosing node
+MeetsAlone g x cost (kind.Spent least) way node = IsRight g x cost way node × IsSpent g x cost least way node
+
+-- what the words say of it there
+abbrev pub FailsAlone : Graph → FleetState → ℕ → Kind → List Decision → Node → NoWhy → Type 0
+FailsAlone g x cost kind.Optimal way node why = IsOptimalFault g x cost way node why
+FailsAlone g x cost (kind.Spent least) way node why = IsFaultAlone g x cost least way node why
+
 -- what a node must meet in a tree of the kind
 abbrev pub MeetsAs : Graph → FleetState → ℕ → Kind → List Decision → Node → Type 0
 MeetsAs g x cost kind.Optimal way node = IsRight g x cost way node × IsClosing node
-MeetsAs g x cost (kind.Spent least) way node = IsRight g x cost way node × IsSpent g x cost least way node
+MeetsAs g x cost (kind.Spent least) way node = (IsRight g x cost way node × IsSpent g x cost least way node) × KeepsGroups g x way node
 
 -- what the words say of a node there
 abbrev pub FailsAs : Graph → FleetState → ℕ → Kind → List Decision → Node → NoWhy → Type 0
@@ -42,15 +68,14 @@ Judges meets fault (Some why) = fault why × ((w : NoWhy) → rank_of w < rank_o
 abbrev pub Gives : List Decision → List (Option Side) → Type 0
 Gives way sides = (q : ℕ) → decided sides q ≡ side_on way q
 
--- so a node is judged, whatever the decisions are that give the sides
+-- so a node is judged groups apart, whatever the decisions are that give the sides
 abbrev pub IsJudged : Graph → FleetState → ℕ → Kind → List (Option Side) → Node → Option NoWhy → Type 0
-IsJudged g x cost kind sides node found = (way : List Decision) → Gives way sides → Judges (MeetsAs g x cost kind way node) (FailsAs g x cost kind way node) found
+IsJudged g x cost kind sides node found = (way : List Decision) → Gives way sides → Judges (MeetsAlone g x cost kind way node) (FailsAlone g x cost kind way node) found
 
--- each node of a list meets the rule, given the ways that are still to be gone, and none comes after the end
-abbrev pub EachListed : (List Decision → Node → Type 0) → List Node → List (List Decision) → Type 0
-EachListed meets [] ways = Unit {0}
-EachListed meets (node ∷ nodes) [] = ⊥
-EachListed meets (node ∷ nodes) (way ∷ ways) = meets way node × EachListed meets nodes (ways_after node (way ∷ ways))
+-- its groups are as they must be, or this word fits
+abbrev pub JudgesGroup : Graph → FleetState → List Decision → Node → Option NoWhy → Type 0
+JudgesGroup g x way node None = KeepsGroups g x way node
+JudgesGroup g x way node (Some why) = IsGroupFault g x way node why
 
 -- all nodes are right, and the last one ends the tree
 abbrev pub IsWhole : Graph → FleetState → ℕ → Kind → List Node → Type 0

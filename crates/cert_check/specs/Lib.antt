@@ -1,10 +1,9 @@
-pub mod Decisions
-pub mod Orders
-pub mod Paths
-pub mod Trees
 pub mod Verdicts
 pub mod Sides
 pub mod Ways
 pub mod Rounds
 pub mod Rooms
+pub mod Sums
+pub mod Work
+pub mod Taken
 pub mod Judging

@@ -1,12 +1,17 @@
 -- Room for the checkers.
-use Rattle.std.specs.Prelude.{ℕ, ◌+◌, List, map, length}
+use Rattle.std.specs.Prelude.{ℕ, ◌≡◌, ◌+◌, List, map, length}
+use Rattle.fleet_base.specs.declared.order.PairId.{PairId}
 use Rattle.fleet_base.specs.Order.{Graph}
+use Rattle.edge_groups.specs.Mates.{AreAllMates}
 
--- what a room was made for: how many visits each robot has, and how many pairs there are
+-- what a room is for: how many visits each robot has, how many pairs there are, and the mates of each pair
 pub record Room : Type 0 where
   pub visits : List ℕ
   pub pairs : ℕ
+  pub mates : List (List PairId)
 
--- the room for a graph
-abbrev pub room_for : Graph → Room
-room_for g = record { visits = map (λ last. last + 1) g.lasts; pairs = length g.pairs }
+-- it was made for the graph
+pub record IsRoomFor (g : Graph) (room : Room) : Type 0 where
+  pub visits : room.visits ≡ map (λ last. last + 1) g.lasts
+  pub pairs : room.pairs ≡ length g.pairs
+  pub mates : AreAllMates g room.mates

@@ -5,32 +5,15 @@ use Rattle.fleet_base.specs.Order.{Graph, IsCycle, other_side}
 use Rattle.fleet_base.specs.State.{FleetState}
 use Rattle.cert_tree.specs.declared.node.Node.{Node}
 use Rattle.cert_tree.specs.declared.node.Node.TheVariants.{Branch, Force, Cyclic, Bound, OpenLeaf}
-use Rattle.cert_check.specs.Decisions.{Decision, order_on, IsFree}
-use Rattle.cert_check.specs.Paths.{ArePaths, total_length}
-use Rattle.cert_check.specs.Trees.{Tree, nodes_of, branch_to, force_to, IsOptimalTree, IsSpentTree, IsNeeded, IsLeftOpen}
+use Rattle.cert_tree.specs.Decisions.{Decision, order_on, IsFree}
+use Rattle.cert_tree.specs.Preorder.{ways_at, branches_in, left_in}
+use Rattle.cert_tree.specs.Paths.{ArePaths, total_length}
+use Rattle.cert_tree.specs.Trees.{Tree, nodes_of, branch_to, force_to, IsOptimalTree, IsSpentTree, IsNeeded, IsLeftOpen}
+use Rattle.cert_tree.specs.GroupRules.{IsNewGroup, HasGroupLeft, IsGroupedTree}
 use Rattle.cert_check.specs.declared.verdict.NoWhy.{NoWhy}
 use Rattle.cert_check.specs.declared.verdict.NoWhy.TheVariants.{Shape, Pair, Cycle, Path, Sum, Leaf, Needed, Group, Count, Least, Order, Cost}
 use Rattle.cert_check.specs.declared.verdict.Verdict.{Verdict}
 use Rattle.cert_check.specs.declared.verdict.Verdict.TheVariants.{Yes, No}
-
--- The decisions that lead to each node that is still to come, the next one first.
--- those after a node
-abbrev pub ways_after : Node → List (List Decision) → List (List Decision)
-ways_after node [] = []
-ways_after (Branch q) (way ∷ ways) = (branch_to q Lower ∷ way) ∷ (branch_to q Higher ∷ way) ∷ ways
-ways_after (Force q side cycle) (way ∷ ways) = (force_to q side ∷ way) ∷ ways
-ways_after (Cyclic cycle) (way ∷ ways) = ways
-ways_after (Bound paths) (way ∷ ways) = ways
-ways_after (OpenLeaf least) (way ∷ ways) = ways
-
--- those after these nodes
-abbrev pub ways_left : List Node → List (List Decision) → List (List Decision)
-ways_left [] ways = ways
-ways_left (node ∷ nodes) ways = ways_left nodes (ways_after node ways)
-
--- those before the node of a number
-abbrev pub ways_at : List Node → ℕ → List (List Decision)
-ways_at nodes k = ways_left (take k nodes) ([] ∷ [])
 
 -- what the words say of a node that a tree for a cost must not have
 abbrev pub IsFault : Graph → FleetState → ℕ → List Decision → Node → NoWhy → Type 0
@@ -49,21 +32,10 @@ IsOptimalFault g x cost way node why = IsFault g x cost way node why
 
 -- in a spent tree
 abbrev pub IsSpentFault : Graph → FleetState → ℕ → ℕ → List Decision → Node → NoWhy → Type 0
-IsSpentFault g x cost least way (OpenLeaf v) Leaf = ¬ IsLeftOpen g x cost way v
+IsSpentFault g x cost least way (OpenLeaf v) Leaf = (¬ IsLeftOpen g x cost way v) ⊎ (¬ HasGroupLeft g x way)
 IsSpentFault g x cost least way (Branch q) Needed = ¬ IsNeeded g x cost least way q.0
+IsSpentFault g x cost least way (Branch q) Group = ¬ IsNewGroup g x way q.0
 IsSpentFault g x cost least way node why = IsFault g x cost way node why
-
--- how many nodes are branches
-abbrev pub branches_in : List Node → ℕ
-branches_in [] = 0
-branches_in (Branch q ∷ nodes) = 1 + branches_in nodes
-branches_in (node ∷ nodes) = branches_in nodes
-
--- the numbers of the open leaves
-abbrev pub left_in : List Node → List ℕ
-left_in [] = []
-left_in (OpenLeaf least ∷ nodes) = least ∷ left_in nodes
-left_in (node ∷ nodes) = left_in nodes
 
 -- what the words say of a whole spent tree
 abbrev pub IsSpentWholeFault : ℕ → ℕ → List Node → NoWhy → Type 0
@@ -114,5 +86,5 @@ OptimalVerdict g x cost nodes (No k why) = IsFirstFault (Fits (IsOptimalFault g 
 
 -- as a spent tree
 abbrev pub SpentVerdict : Graph → FleetState → ℕ → ℕ → ℕ → List Node → Verdict → Type 0
-SpentVerdict g x cost least budget nodes Yes = (tree : Tree) × (nodes ≡ nodes_of tree) × IsSpentTree g x cost least budget tree
+SpentVerdict g x cost least budget nodes Yes = (tree : Tree) × (nodes ≡ nodes_of tree) × IsSpentTree g x cost least budget tree × IsGroupedTree g x tree
 SpentVerdict g x cost least budget nodes (No k why) = IsFirstFault (Fits (IsSpentFault g x cost least) (IsSpentWholeFault least budget nodes) nodes) k why

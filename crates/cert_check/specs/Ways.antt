@@ -1,5 +1,5 @@
 -- The decisions on the way to a node as they are kept, and the ways that are still to come.
-use Rattle.std.specs.Prelude.{ℕ, ◌≡◌, ◌<◌, ◌≤◌, List, [], ◌∷◌, map, reverse, Bool, true, false, None, vec_len}
+use Rattle.std.specs.Prelude.{ℕ, ◌≡◌, ◌<◌, ◌≤◌, List, [], ◌∷◌, map, reverse, Bool, true, false, Option, Some, None, vec_len}
 use Rattle.std.specs.Vec.{vec_capacity}
 use Rattle.fleet_base.specs.declared.order.PairId.{PairId}
 use Rattle.fleet_base.specs.declared.order.Side.{Side}
@@ -9,8 +9,8 @@ use Rattle.cert_tree.specs.declared.node.Node.TheVariants.{Branch, Force, Cyclic
 use Rattle.cert_check.specs.declared.way.Step.{Step}
 use Rattle.cert_check.specs.declared.way.Step.TheVariants.{Lower, Higher, Forced}
 use Rattle.cert_check.specs.declared.way.Way.{Way}
-use Rattle.cert_check.specs.Decisions.{Decision, side_on}
-use Rattle.cert_check.specs.Trees.{branch_to, force_to}
+use Rattle.cert_tree.specs.Decisions.{Decision, side_on}
+use Rattle.cert_tree.specs.Trees.{branch_to, force_to}
 use Rattle.cert_check.specs.Sides.{decided}
 
 -- the pair of a step
@@ -24,6 +24,12 @@ abbrev pub step_side : Step → Side
 step_side (Lower q) = side.Lower
 step_side (Higher q) = side.Higher
 step_side (Forced q s) = s
+
+-- the pair that a step branched on
+abbrev pub branch_of : Step → Option PairId
+branch_of (Lower q) = Some q
+branch_of (Higher q) = Some q
+branch_of (Forced q s) = None
 
 -- the decision of a step
 abbrev pub decision_of : Step → Decision

@@ -1,5 +1,4 @@
-ghost use Rattle.std.specs.Prelude.{◌≡◌, ◌<◌, ◌≤◌, ◌^◌, ℕ, All, MatchOption, IfSome, IfNone, length, vec_len};
-ghost use Rattle.std.specs.Vec.{vec_capacity};
+ghost use Rattle.std.specs.Prelude.{◌≡◌, ◌<◌, ◌≤◌, ◌^◌, ℕ, All, MatchOption, IfSome, IfNone, length};
 ghost use Rattle.fleet_base.specs.declared.geometry.Visit.{Visit};
 ghost use Rattle.fleet_base.specs.Rules.{IsFleetState};
 ghost use Rattle.fleet_base.specs.Schedule.{IsLawful, end_sum_of};
@@ -8,12 +7,12 @@ ghost use Rattle.cert_check.specs.declared.verdict.Verdict.TheVariants.{Yes};
 ghost use Rattle.cert_check.specs.declared.judge.Kind.TheVariants as kind;
 ghost use Rattle.cert_check.specs.Verdicts.{OptimalVerdict, SpentVerdict, IsSpentWholeFault};
 ghost use Rattle.cert_check.specs.Judging.{Judges, IsWhole, IsFirstAs, IsWholeRight, lower_of};
-ghost use Rattle.cert_check.specs.Rooms.{room_for};
-ghost use Rattle.cert_check.specs.Rounds.{HasTicks, KeepsRows};
+ghost use Rattle.cert_check.specs.Rooms.{IsRoomFor};
+ghost use Rattle.cert_check.specs.Work.{IsWorkFor, KeepsWork};
 
 use crate::judge::{Kind, judge};
-use crate::rounds::Ticks;
-use crate::way::Way;
+use crate::sums::sum_up;
+use crate::workspace::Workspace;
 use crate::{NoWhy, Scratch, Verdict};
 use cert_tree::{Cert, Node};
 use fleet_base::Fleet;
@@ -30,7 +29,7 @@ pub fn check_optimal(
     requires state { IsFleetState graph.now fleet.now }
     requires nodes { All IsWritten cert.now }
     requires few { length cert.now < 2 ^ 32 }
-    requires room { scratch.old ≡ room_for graph.now }
+    requires room { IsRoomFor graph.now scratch.old }
     ensures verdict { OptimalVerdict graph.now fleet.now cost cert.now result }
     ensures bound { result ≡ Yes → (s : Visit → ℕ) → IsLawful graph.now fleet.now s → cost ≤ end_sum_of graph.now s }
     ensures room { scratch.new ≡ scratch.old }
@@ -55,7 +54,7 @@ pub fn check_spent(
     requires state { IsFleetState graph.now fleet.now }
     requires nodes { All IsWritten cert.now }
     requires few { length cert.now < 2 ^ 32 }
-    requires room { scratch.old ≡ room_for graph.now }
+    requires room { IsRoomFor graph.now scratch.old }
     ensures verdict { SpentVerdict graph.now fleet.now cost least budget cert.now result }
     ensures bound { result ≡ Yes → (s : Visit → ℕ) → IsLawful graph.now fleet.now s → least ≤ end_sum_of graph.now s }
     ensures room { scratch.new ≡ scratch.old }
@@ -86,20 +85,12 @@ fn first_fault(
     requires state { IsFleetState graph.now fleet.now }
     requires nodes { All IsWritten nodes.now }
     requires few { length nodes.now < 2 ^ 32 }
-    requires room { scratch.old ≡ room_for graph.now }
+    requires room { IsRoomFor graph.now scratch.old }
     ensures none { IfNone result (IsWhole graph.now fleet.now cost kind nodes.now) }
     ensures some { IfSome result (IsFirstAs graph.now fleet.now cost kind nodes.now) }
     ensures room { scratch.new ≡ scratch.old }
 {
-    go_through(
-        graph,
-        fleet,
-        kind,
-        cost,
-        nodes,
-        &mut scratch.way,
-        &mut scratch.ticks,
-    )
+    go_through(graph, fleet, kind, cost, nodes, &mut scratch.work)
 }
 
 fn go_through(
@@ -108,31 +99,27 @@ fn go_through(
     kind: Kind,
     cost: u64,
     nodes: &[Node],
-    way: &mut Way,
-    ticks: &mut Ticks,
+    work: &mut Workspace,
 ) -> Option<(u32, NoWhy)>
     requires state { IsFleetState graph.now fleet.now }
     requires nodes { All IsWritten nodes.now }
     requires few { length nodes.now < 2 ^ 32 }
-    requires sides { vec_len way.old.sides ≡ length graph.now.pairs }
-    requires steps { vec_len way.old.sides ≤ vec_capacity way.old.steps }
-    requires ticks { HasTicks graph.now ticks.old }
+    requires work { IsWorkFor graph.now work.old }
     ensures none { IfNone result (IsWhole graph.now fleet.now cost kind nodes.now) }
     ensures some { IfSome result (IsFirstAs graph.now fleet.now cost kind nodes.now) }
-    ensures sides { vec_len way.new.sides ≡ vec_len way.old.sides }
-    ensures steps { vec_len way.new.sides ≤ vec_capacity way.new.steps }
-    ensures rows { KeepsRows ticks.old ticks.new }
+    ensures work { KeepsWork work.old work.new }
 {
-    way.clear();
+    work.way.clear();
+    sum_up(graph, fleet, &mut work.sums);
     let mut goes_on = true;
     for (number, node) in nodes.iter().enumerate() {
         if !goes_on {
             return Some((number as u32, NoWhy::Shape));
         }
-        if let Some(why) = judge(graph, fleet, kind, cost, node, &mut way.sides, ticks) {
+        if let Some(why) = judge(graph, fleet, kind, cost, node, work) {
             return Some((number as u32, why));
         }
-        goes_on = way.follow(node);
+        goes_on = work.way.follow(node);
     }
     if goes_on {
         Some((nodes.len() as u32, NoWhy::Shape))

@@ -1,4 +1,4 @@
-ghost use Rattle.std.specs.Prelude.{◌≡◌, ◌<◌, ◌≤◌, ◌^◌, ◌↔◌, true, None, ℕ, List, IsTrue, All, length, map, slice_get, Some};
+ghost use Rattle.std.specs.Prelude.{◌≡◌, ◌<◌, ◌≤◌, ◌^◌, ◌↔◌, true, None, ℕ, List, IsTrue, All, length, map, reverse, slice_get, Some};
 ghost use Rattle.std.specs.List.Sorted.{IsStrictlyIncreasing};
 ghost use Rattle.fleet_base.specs.Order.{IsVisit};
 ghost use Rattle.fleet_base.specs.Open.{is_open};
@@ -7,17 +7,23 @@ ghost use Rattle.fleet_base.specs.Schedule.{ObeysEdge};
 ghost use Rattle.cert_tree.specs.declared.node.Node.TheVariants.{Branch, Force, Cyclic, Bound, OpenLeaf};
 ghost use Rattle.cert_tree.specs.CertText.{IsWritten};
 ghost use Rattle.cert_check.specs.declared.judge.Kind.TheVariants as kind;
-ghost use Rattle.cert_check.specs.Decisions.{Decision};
+ghost use Rattle.cert_tree.specs.Decisions.{Decision};
 ghost use Rattle.cert_check.specs.Sides.{decided, HasSides};
-ghost use Rattle.cert_check.specs.Trees.{IsNeeded, IsLeftOpen};
-ghost use Rattle.cert_check.specs.Judging.{IsJudged, Gives};
+ghost use Rattle.cert_tree.specs.Trees.{IsNeeded, IsLeftOpen};
+ghost use Rattle.cert_check.specs.Judging.{IsJudged, Judges, MeetsAs, FailsAs, Gives};
+ghost use Rattle.cert_check.specs.Sums.{AreSums};
+ghost use Rattle.cert_check.specs.Ways.{HasWay, way_of};
+ghost use Rattle.cert_check.specs.Work.{IsWorkFor, KeepsWork};
 ghost use Rattle.cert_check.specs.Rounds.{ticks_of, HasTicks, IsBelow, KeepsRows};
 
 use crate::NoWhy;
 use crate::cycle::is_cycle;
 use crate::edges::{edge_of, is_free};
+use crate::groups::judge_group;
 use crate::path::{duration, total_length};
 use crate::rounds::{Ticks, end_sum, relax, tick_of};
+use crate::sums::Sums;
+use crate::workspace::Workspace;
 use cert_tree::{CertPath, Node};
 use fleet_base::{Edge, Fleet, PairId, Side};
 use plan_graph::PlanGraph;
@@ -29,19 +35,49 @@ pub(crate) enum Kind {
     Spent { least: u64 },
 }
 
-/// The first word that fits a node, given the sides that are decided on the way to it.
+/// The first word that fits a node, given the way to it.
 pub(crate) fn judge(
     graph: &PlanGraph,
     fleet: &Fleet,
     kind: Kind,
     cost: u64,
     node: &Node,
+    work: &mut Workspace,
+) -> Option<NoWhy>
+    requires state { IsFleetState graph.now fleet.now }
+    requires work { IsWorkFor graph.now work.old }
+    requires way { HasWay work.old.way (reverse work.old.way.steps.items) }
+    requires sums { AreSums graph.now fleet.now work.old.sums }
+    requires written { IsWritten node.now }
+    ensures word { Judges (MeetsAs graph.now fleet.now cost kind (way_of (reverse work.old.way.steps.items)) node.now) (FailsAs graph.now fleet.now cost kind (way_of (reverse work.old.way.steps.items)) node.now) result }
+    ensures sides { work.new.way.sides.items ≡ work.old.way.sides.items }
+    ensures steps { work.new.way.steps ≡ work.old.way.steps }
+    ensures sums { work.new.sums ≡ work.old.sums }
+    ensures work { KeepsWork work.old work.new }
+{
+    let sides = &mut work.way.sides;
+    let word = judge_alone(graph, fleet, kind, cost, node, &work.sums, sides, &mut work.ticks);
+    match kind {
+        Kind::Spent { .. } if word.is_none() => judge_group(graph, fleet, node, work),
+        _ => word,
+    }
+}
+
+/// The first word that fits a node, groups apart, given the sides that are decided on the way to it.
+fn judge_alone(
+    graph: &PlanGraph,
+    fleet: &Fleet,
+    kind: Kind,
+    cost: u64,
+    node: &Node,
+    sums: &Sums,
     sides: &mut [Option<Side>],
     ticks: &mut Ticks,
 ) -> Option<NoWhy>
     requires state { IsFleetState graph.now fleet.now }
     requires sides { HasSides graph.now sides.old }
     requires ticks { HasTicks graph.now ticks.old }
+    requires sums { AreSums graph.now fleet.now sums.now }
     requires written { IsWritten node.now }
     ensures word { IsJudged graph.now fleet.now cost kind sides.old node.now result }
     ensures sides { sides.new ≡ sides.old }
@@ -58,7 +94,7 @@ pub(crate) fn judge(
             sides,
         ),
         Node::Cyclic { cycle } => judge_cyclic(graph, fleet, cycle.as_slice(), sides),
-        Node::Bound { paths } => judge_bound(graph, fleet, cost, paths.as_slice(), sides),
+        Node::Bound { paths } => judge_bound(graph, fleet, sums, cost, paths.as_slice(), sides),
         Node::OpenLeaf { least } => judge_leaf(graph, fleet, kind, cost, *least, sides, ticks),
     }
 }
@@ -134,17 +170,19 @@ fn judge_cyclic(
 fn judge_bound(
     graph: &PlanGraph,
     fleet: &Fleet,
+    sums: &Sums,
     cost: u64,
     paths: &[CertPath],
     sides: &[Option<Side>],
 ) -> Option<NoWhy>
     requires state { IsFleetState graph.now fleet.now }
     requires sides { HasSides graph.now sides.now }
+    requires sums { AreSums graph.now fleet.now sums.now }
     requires ascending { IsStrictlyIncreasing (map (λ p. p.robot) paths.now) }
     ensures optimal { IsJudged graph.now fleet.now cost kind.Optimal sides.now (Bound paths.now) result }
     ensures spent { (least : ℕ) → IsJudged graph.now fleet.now cost (kind.Spent least) sides.now (Bound paths.now) result }
 {
-    let Some(total) = total_length(graph, fleet, sides, paths) else {
+    let Some(total) = total_length(graph, fleet, sums, sides, paths) else {
         return Some(NoWhy::Path);
     };
     let cost = u128::from(cost);

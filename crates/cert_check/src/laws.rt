@@ -10,9 +10,9 @@ ghost use Rattle.fleet_base.specs.Rules.{IsFleetState};
 ghost use Rattle.fleet_base.specs.Schedule.{IsCost, IsLawful, end_sum_of};
 ghost use Rattle.cert_tree.specs.declared.node.Node.{Node};
 ghost use Rattle.cert_check.specs.declared.verdict.Verdict.{Verdict};
-ghost use Rattle.cert_check.specs.Orders.{KeepsClosed, ObeysPairs};
+ghost use Rattle.cert_tree.specs.Orders.{KeepsClosed, ObeysPairs};
 ghost use Rattle.fleet_base.specs.Paths.{path_length};
-ghost use Rattle.cert_check.specs.Trees.{Tree, IsOptimalTree, IsSpentTree};
+ghost use Rattle.cert_tree.specs.Trees.{Tree, IsOptimalTree, IsSpentTree};
 ghost use Rattle.cert_check.specs.Verdicts.{OptimalVerdict, SpentVerdict};
 
 /// A lawful schedule does not obey all edges of a cycle.

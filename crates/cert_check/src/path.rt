@@ -3,12 +3,14 @@ ghost use Rattle.std.specs.List.Sorted.{IsStrictlyIncreasing};
 ghost use Rattle.fleet_base.specs.Order.{IsVisit, last_in};
 ghost use Rattle.fleet_base.specs.State.{arrived_count, duration_of};
 ghost use Rattle.fleet_base.specs.Rules.{IsFleetState};
-ghost use Rattle.fleet_base.specs.Paths.{travel, walk_end, coming, start_tick, has_finished, finished_length, start_robot, path_length};
-ghost use Rattle.cert_check.specs.Paths.{total_length, ArePaths};
+ghost use Rattle.fleet_base.specs.Paths.{walk_end, coming, start_tick, has_finished, finished_length, start_robot, path_length};
+ghost use Rattle.cert_tree.specs.Paths.{total_length, ArePaths};
 ghost use Rattle.cert_check.specs.Sides.{order_by, HasSides};
 ghost use Rattle.cert_check.specs.Judging.{TakesPath};
+ghost use Rattle.cert_check.specs.Sums.{AreSums};
 
 use crate::edges::{find_edge, following, leads_on};
+use crate::sums::{Sums, moves};
 use cert_tree::CertPath;
 use fleet_base::{Fleet, PairId, Side, Visit};
 use plan_graph::PlanGraph;
@@ -21,23 +23,6 @@ pub(crate) fn duration(fleet: &Fleet, v: Visit) -> u64
     ensures { result ≡ duration_of fleet.now v }
 {
     1 + fleet.delay(v)
-}
-
-/// How long the moves of a robot last that lead from a visit on to a later one.
-fn moves(graph: &PlanGraph, fleet: &Fleet, from: Visit, to: u32) -> u64
-    requires state { IsFleetState graph.now fleet.now }
-    requires robot { from.robot < length graph.now.lasts }
-    requires to { to ≤ last_in graph.now from.robot }
-    ensures value { result ≡ travel fleet.now from to }
-    ensures short { result < 2 ^ 52 }
-{
-    let _within = graph.robots();
-    let mut sum = 0;
-    for index in from.index..to {
-        let robot = from.robot;
-        sum += duration(fleet, following(Visit { robot, index }));
-    }
-    sum
 }
 
 /// Whether a robot has arrived at its last visit.
@@ -113,6 +98,7 @@ fn first_robot(
 fn walk(
     graph: &PlanGraph,
     fleet: &Fleet,
+    sums: &Sums,
     sides: &[Option<Side>],
     robot: u32,
     pairs: &[PairId],
@@ -122,10 +108,12 @@ fn walk(
     requires state { IsFleetState graph.now fleet.now }
     requires sides { HasSides graph.now sides.now }
     requires robot { robot < length graph.now.lasts }
-    requires from { from.robot < length graph.now.lasts }
+    requires sums { AreSums graph.now fleet.now sums.now }
+    requires from { IsVisit graph.now from }
     ensures value { result ≡ walk_end graph.now fleet.now (order_by graph.now fleet.now sides.now) robot from start pairs.now }
     ensures short { IfSome result (λ end. end < 2 ^ 118) }
 {
+    let _within = graph.robots();
     let mut at = from;
     let mut tick = u128::from(start);
     for q in pairs {
@@ -135,7 +123,7 @@ fn walk(
         if !leads_on(graph, at, next.tail) {
             return None;
         }
-        let along = moves(graph, fleet, at, next.tail.index);
+        let along = moves(sums, at, next.tail.index);
         let across = duration(fleet, next.head);
         tick += u128::from(along) + u128::from(across);
         at = next.head;
@@ -143,13 +131,14 @@ fn walk(
     if at.robot != robot {
         return None;
     }
-    Some(tick + u128::from(moves(graph, fleet, at, graph.last(robot))))
+    Some(tick + u128::from(moves(sums, at, graph.last(robot))))
 }
 
 /// The length of a path for a robot, if these pairs are one.
 fn length_of(
     graph: &PlanGraph,
     fleet: &Fleet,
+    sums: &Sums,
     sides: &[Option<Side>],
     robot: u32,
     pairs: &[PairId],
@@ -157,6 +146,7 @@ fn length_of(
     requires state { IsFleetState graph.now fleet.now }
     requires sides { HasSides graph.now sides.now }
     requires robot { robot < length graph.now.lasts }
+    requires sums { AreSums graph.now fleet.now sums.now }
     ensures value { result ≡ path_length graph.now fleet.now (order_by graph.now fleet.now sides.now) robot pairs.now }
     ensures short { IfSome result (λ n. n < 2 ^ 118) }
 {
@@ -169,7 +159,7 @@ fn length_of(
     }
     let from = first_to_come(graph, fleet, begins);
     let start = earliest_end(graph, fleet, begins);
-    walk(graph, fleet, sides, robot, pairs, from, start)
+    walk(graph, fleet, sums, sides, robot, pairs, from, start)
 }
 
 /// The length of a path for a robot that has finished: when it arrived.
@@ -207,11 +197,13 @@ fn pairs_at(paths: &[CertPath], place: usize, robot: u32) -> (&[PairId], usize)
 pub(crate) fn total_length(
     graph: &PlanGraph,
     fleet: &Fleet,
+    sums: &Sums,
     sides: &[Option<Side>],
     paths: &[CertPath],
 ) -> Option<u128>
     requires state { IsFleetState graph.now fleet.now }
     requires sides { HasSides graph.now sides.now }
+    requires sums { AreSums graph.now fleet.now sums.now }
     requires ascending { IsStrictlyIncreasing (map (λ p. p.robot) paths.now) }
     ensures some { IfSome result (λ total. ArePaths graph.now fleet.now (order_by graph.now fleet.now sides.now) paths.now × (total ≡ total_length graph.now fleet.now (order_by graph.now fleet.now sides.now) paths.now)) }
     ensures none { IfNone result (ArePaths graph.now fleet.now (order_by graph.now fleet.now sides.now) paths.now → ⊥) }
@@ -220,7 +212,7 @@ pub(crate) fn total_length(
     let mut place = 0;
     for robot in 0..graph.robots() {
         let (pairs, after) = pairs_at(paths, place, robot);
-        let Some(length) = length_of(graph, fleet, sides, robot, pairs) else {
+        let Some(length) = length_of(graph, fleet, sums, sides, robot, pairs) else {
             return None;
         };
         total += length;

@@ -1,11 +1,13 @@
-ghost use Rattle.std.specs.Prelude.{◌≡◌, ◌<◌, ◌≤◌, ◌∷◌, [], None, reverse, IfOk, vec_len};
+ghost use Rattle.std.specs.Prelude.{◌≡◌, ◌<◌, ◌≤◌, ◌∷◌, [], ℕ, None, reverse, IfOk, vec_len, length};
 ghost use Rattle.std.specs.Vec.{vec_capacity};
+ghost use Rattle.plan_graph.specs.Views.{order_in};
 ghost use Rattle.cert_check.specs.Sides.{decided};
-ghost use Rattle.cert_check.specs.Ways.{HasWay, ways_of, ways_behind, step_pair, step_side, NextWay, DecidesFree};
-ghost use Rattle.cert_check.specs.Verdicts.{ways_after};
+ghost use Rattle.cert_check.specs.Ways.{HasWay, ways_of, ways_behind, step_pair, step_side, branch_of, NextWay, DecidesFree};
+ghost use Rattle.cert_tree.specs.Preorder.{ways_after};
 
 use cert_tree::Node;
 use fleet_base::{Memory, PairId, Side};
+use plan_graph::Oriented;
 use std::alloc::Global;
 
 /// A decision on the way to a node.
@@ -37,6 +39,16 @@ impl Step {
             Step::Forced(_, side) => side,
         }
     }
+
+    /// The pair of a Branch.
+    pub(crate) fn branched_on(&self) -> Option<PairId>
+        ensures { result ≡ branch_of self.now }
+    {
+        match self {
+            Step::Lower(pair) | Step::Higher(pair) => Some(*pair),
+            Step::Forced(..) => None,
+        }
+    }
 }
 
 /// The decisions on the way to a node, the last one last, and for each pair the side that they give it.
@@ -66,6 +78,18 @@ impl Way {
     {
         self.sides.fill(None);
         self.steps.clear();
+    }
+
+    /// Takes the sides of a view, as if each pair that has one were decided.
+    pub(crate) fn take_sides(&mut self, view: &Oriented<'_>)
+        requires { vec_len self.old.sides ≡ length view.now.graph.pairs }
+        ensures taken { (q : ℕ) → q < vec_len self.old.sides → decided self.new.sides.items q ≡ order_in view.now q }
+        ensures sides { vec_len self.new.sides ≡ vec_len self.old.sides }
+        ensures steps { self.new.steps ≡ self.old.steps }
+    {
+        for number in 0..view.graph().pair_count() {
+            self.sides[number as usize] = view.side(PairId(number));
+        }
     }
 
     /// One decision more, of an undecided pair.

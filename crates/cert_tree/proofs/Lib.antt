@@ -9,3 +9,12 @@ pub mod SameNodes
 pub mod WrittenText
 pub mod LastLine
 pub mod FaultLines
+pub mod EdgeLaws
+pub mod Places
+pub mod Lawful
+pub mod Walks
+pub mod PathBound
+pub mod TreeBound
+pub mod SoundOrders
+pub mod Preorder
+pub mod Branches

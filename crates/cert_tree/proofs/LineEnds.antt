@@ -1,5 +1,5 @@
 -- The lines of a text, from the first on.
-use Rattle.std.proofs.Common.{ℕ, Some, None, ◌+◌, ◌-◌, ◌≡◌, List, [], ◌∷◌, ◌++◌, map, take, drop, sym, ◌∙◌, ap}
+use Rattle.std.proofs.Common.{ℕ, Some, None, ◌+◌, ◌≡◌, List, [], ◌∷◌, ◌++◌, map, take, drop, sym, ◌∙◌, ap}
 use Rattle.std.specs.Prelude.{◌==◌, position}
 use Rattle.std.proofs.lemmas.List.{take-append-drop}
 use Rattle.fleet_base.specs.Bytes.{pieces_of, all_but_last, last_piece, without_cr, whole_lines}

@@ -58,12 +58,16 @@ IsWritten (OpenLeaf least) = Unit {0}
 abbrev pub HavePairNumbers : List PairId → Type 0
 HavePairNumbers pairs = (length pairs < 2 ^ 64) × All (λ q. q.0 < 2 ^ 32) pairs
 
+-- a path's numbers fit their types
+abbrev pub IsNumbered : CertPath → Type 0
+IsNumbered p = (p.robot < 2 ^ 32) × HavePairNumbers p.pairs
+
 -- a node's numbers fit their types
 abbrev pub HasNumbers : Node → Type 0
 HasNumbers (Branch q) = q.0 < 2 ^ 32
 HasNumbers (Force q side cycle) = (q.0 < 2 ^ 32) × HavePairNumbers cycle
 HasNumbers (Cyclic cycle) = HavePairNumbers cycle
-HasNumbers (Bound paths) = All (λ p. (p.robot < 2 ^ 32) × HavePairNumbers p.pairs) paths
+HasNumbers (Bound paths) = All IsNumbered paths
 HasNumbers (OpenLeaf least) = least < 2 ^ 64
 
 -- these lines are those of a certificate

@@ -1,3 +1,9 @@
 pub mod CertText
 pub mod CertFaults
 pub mod Reading
+pub mod Decisions
+pub mod Orders
+pub mod Paths
+pub mod Trees
+pub mod Preorder
+pub mod GroupRules

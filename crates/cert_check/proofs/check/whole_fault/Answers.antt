@@ -1,6 +1,6 @@
 use Rattle.std.proofs.Common.{ℕ, Some, List, ◌++◌, ◌∷◌, [], ◌∙◌, ap, take, arith}
 use Rattle.std.proofs.lemmas.List.{append-nil}
-use Rattle.cert_check.specs.Verdicts.{branches_in, left_in}
+use Rattle.cert_tree.specs.Preorder.{branches_in, left_in}
 use Rattle.cert_check.proofs.WholeLaws.{branches_more, left_more, lowest_more, lowest_same, other_node}
 use Rattle.cert_check.proofs.check.whole_fault.Goals as goal
 use Rattle.cert_check.proofs.check.whole_fault.Goals.{in-Branch, in-OpenLeaf, in_default}

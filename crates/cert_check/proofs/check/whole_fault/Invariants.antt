@@ -1,6 +1,6 @@
 -- The branches and the least number of the open leaves so far.
 use Rattle.std.proofs.Common.{◌≡◌, ◌≤◌, take}
-use Rattle.cert_check.specs.Verdicts.{branches_in, left_in}
+use Rattle.cert_tree.specs.Preorder.{branches_in, left_in}
 use Rattle.cert_check.proofs.WholeLaws.{IsLowest}
 use Rattle.cert_check.proofs.check.whole_fault.Given as goal
 

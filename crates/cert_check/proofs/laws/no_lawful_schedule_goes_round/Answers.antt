@@ -1,4 +1,4 @@
-use Rattle.cert_check.proofs.Lawful.{never_round}
+use Rattle.cert_tree.proofs.Lawful.{never_round}
 use Rattle.cert_check.proofs.laws.no_lawful_schedule_goes_round.Goals as goal
 
 pub returns : goal.returns

@@ -1,4 +1,4 @@
-use Rattle.cert_check.proofs.PathBound.{path_below}
+use Rattle.cert_tree.proofs.PathBound.{path_below}
 use Rattle.cert_check.proofs.laws.no_path_is_longer_than_its_robot.Goals as goal
 
 pub returns : goal.returns

@@ -1,4 +1,4 @@
-use Rattle.cert_check.proofs.TreeBound.{optimal_below}
+use Rattle.cert_tree.proofs.TreeBound.{optimal_below}
 use Rattle.cert_check.proofs.laws.optimal_trees_bound_schedules.Goals as goal
 
 pub returns : goal.returns

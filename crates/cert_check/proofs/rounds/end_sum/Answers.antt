@@ -1,7 +1,7 @@
 use Rattle.std.proofs.Common.{ℕ, ◌∙◌, ap, arith}
 use Rattle.fleet_base.specs.Order.{last_in}
 use Rattle.cert_check.specs.Rounds.{ticks_of}
-use Rattle.cert_check.proofs.Walks.{sum_next}
+use Rattle.cert_tree.proofs.Walks.{sum_next}
 use Rattle.cert_check.proofs.rounds.end_sum.Goals as goal
 
 pub loop-robot-preserved : goal.loop-robot-preserved

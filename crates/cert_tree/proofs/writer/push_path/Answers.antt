@@ -1,4 +1,7 @@
 use Rattle.std.proofs.Common.{[], ◌∷◌, ◌++◌, sym, subst, append_assoc}
+use Rattle.std.proofs.Common.{arith}
+use Rattle.std.proofs.lemmas.Result.{on_ok_weaker}
+use Rattle.cert_tree.specs.CertText.{HavePairNumbers}
 use Rattle.std.specs.Prelude.{codes}
 use Rattle.std.proofs.lemmas.Result.{err_from_is_err_and, on_err_weaker}
 use Rattle.fleet_base.specs.Bytes.{field, AppendsFront}
@@ -20,3 +23,6 @@ returns-clause-err c =
     let words = codes "cert path" ++ field c.from.result in
     rw (sym c.from.ensures)
     (on_err_weaker c.push_pairs.result (λ left. subst (λ l. AppendsFront c.args.out.now c.push_pairs.new.out l) (sym (append_assoc words (pair_fields path.pairs) (10 ∷ []))) (front_behind c.args.out.now c.push_words.new.out c.push_pairs.new.out words (pair_fields path.pairs ++ 10 ∷ []) c.in_ok-push_words.ensures.ok left)) (rw c.as_slice.ensures at c.push_pairs.ensures.err))
+
+pub returns-clause-numbers : goal.returns-clause-numbers
+returns-clause-numbers c = on_ok_weaker c.push_pairs.result (λ n. (omega arith, subst HavePairNumbers c.as_slice.ensures n)) c.push_pairs.ensures.numbers

@@ -16,13 +16,13 @@ use Rattle.fleet_base.specs.Schedule.{IsLawful, ObeysEdge, ObeysSide, Obeys, end
 use Rattle.fleet_base.proofs.Members.{head_in, in_one, in_none}
 use Rattle.cert_tree.specs.declared.node.Node.{Node}
 use Rattle.cert_tree.specs.declared.node.Node.TheVariants.{Branch, Force, Cyclic, Bound, OpenLeaf}
-use Rattle.cert_check.specs.Decisions.{Decision, side_on, order_on}
-use Rattle.cert_check.specs.Trees.{Tree, EachNode, IsRight, IsClosing, IsOptimalTree, IsSpent, IsSpentTree, branch_to, force_to, left_costs}
-use Rattle.cert_check.specs.Trees.Tree.{Fork, Forced, Refuted, Bounded, Left}
+use Rattle.cert_tree.specs.Decisions.{Decision, side_on, order_on}
+use Rattle.cert_tree.specs.Trees.{Tree, EachNode, IsRight, IsClosing, IsOptimalTree, IsSpent, IsSpentTree, branch_to, force_to, left_costs}
+use Rattle.cert_tree.specs.Trees.Tree.{Fork, Forced, Refuted, Bounded, Left}
 use Rattle.fleet_base.proofs.OpenPairs.{open_listed}
-use Rattle.cert_check.specs.Orders.{KeepsClosed, ObeysPairs}
-use Rattle.cert_check.proofs.Lawful.{never_round}
-use Rattle.cert_check.proofs.PathBound.{total_below}
+use Rattle.cert_tree.specs.Orders.{KeepsClosed, ObeysPairs}
+use Rattle.cert_tree.proofs.Lawful.{never_round}
+use Rattle.cert_tree.proofs.PathBound.{total_below}
 
 -- decisions leave the closed pairs their sides
 pub order_keeps : (g : Graph) (x : FleetState) (way : List Decision) → KeepsClosed g x (order_on g x way)

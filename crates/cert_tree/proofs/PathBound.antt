@@ -15,13 +15,13 @@ use Rattle.fleet_base.specs.Schedule.{IsSchedule, ObeysEdge, end_sum_of}
 use Rattle.cert_tree.specs.declared.node.CertPath.{CertPath}
 use Rattle.fleet_base.specs.declared.order.Edge.{Edge}
 use Rattle.fleet_base.specs.Paths.{edge_in, travel, leads_on, walk_end, coming, start_tick, has_finished, start_robot, finished_length, path_length}
-use Rattle.cert_check.specs.Paths.{path_for, length_for, ArePaths, total_length}
+use Rattle.cert_tree.specs.Paths.{path_for, length_for, ArePaths, total_length}
 use Rattle.fleet_base.proofs.Walking.{CanGo, can_go, edge_has}
 use Rattle.fleet_base.proofs.Edges.{head_there}
 use Rattle.fleet_base.proofs.Costs.{range_sum}
-use Rattle.cert_check.proofs.EdgeLaws.{visit, visit_before}
-use Rattle.cert_check.specs.Orders.{KeepsClosed, ObeysPairs}
-use Rattle.cert_check.proofs.Lawful.{tail_arrived}
+use Rattle.cert_tree.proofs.EdgeLaws.{visit, visit_before}
+use Rattle.cert_tree.specs.Orders.{KeepsClosed, ObeysPairs}
+use Rattle.cert_tree.proofs.Lawful.{tail_arrived}
 
 -- the first leg of a walk that gets to its end
 first_leg : (g : Graph) (x : FleetState) (order : ℕ → Option Side) (q : PairId) (qs : List PairId) (i : ℕ) (at : Visit) (tick end : ℕ)

@@ -11,9 +11,9 @@ use Rattle.fleet_base.specs.Open.{is_open}
 use Rattle.fleet_base.specs.Rules.{IsFleetState}
 use Rattle.fleet_base.specs.Paths.{travel}
 use Rattle.fleet_base.proofs.OpenPairs.{open_goes_on}
-use Rattle.cert_check.specs.Orders.{KeepsClosed}
-use Rattle.cert_check.proofs.EdgeLaws.{visit}
-use Rattle.cert_check.proofs.Lawful.{edge_of_state}
+use Rattle.cert_tree.specs.Orders.{KeepsClosed}
+use Rattle.cert_tree.proofs.EdgeLaws.{visit}
+use Rattle.cert_tree.proofs.Lawful.{edge_of_state}
 
 -- one more number at the end of a range
 pub sum_more : (f : ℕ → ℕ) (n a : ℕ) → sum_by f (range_with_len a (suc n)) ≡ sum_by f (range_with_len a n) + f (a + n)

@@ -11,11 +11,11 @@ use Rattle.fleet_base.specs.Rules.{IsFleetState}
 use Rattle.fleet_base.specs.Schedule.{ObeysEdge}
 use Rattle.fleet_base.proofs.Sorting.{sorted}
 use Rattle.fleet_base.proofs.AllVisits.{all_visits, sorted_by_rank}
-use Rattle.cert_check.specs.Orders.{KeepsClosed, ObeysPairs}
+use Rattle.cert_tree.specs.Orders.{KeepsClosed, ObeysPairs}
 use Rattle.fleet_base.proofs.Edges.{head_there}
 use Rattle.fleet_base.proofs.OpenPairs.{open_unreleased}
-use Rattle.cert_check.proofs.EdgeLaws.{visit_before, no_cycle}
-use Rattle.cert_check.proofs.Places.{place_in, stands, earlier}
+use Rattle.cert_tree.proofs.EdgeLaws.{visit_before, no_cycle}
+use Rattle.cert_tree.proofs.Places.{place_in, stands, earlier}
 
 module _ (g : Graph) (x : FleetState) (state : IsFleetState g x) (order : ℕ → Option Side) (keeps : KeepsClosed g x order) where
   -- the pair of an edge whose head has arrived is closed, and its tail has arrived

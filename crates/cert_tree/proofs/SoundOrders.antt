@@ -10,13 +10,13 @@ use Rattle.fleet_base.specs.State.{FleetState}
 use Rattle.fleet_base.specs.Open.{is_open}
 use Rattle.fleet_base.specs.Rules.{IsFleetState}
 use Rattle.fleet_base.specs.Schedule.{IsLawful, IsSchedule, ObeysEdge, ObeysSide, Obeys, IsCost}
-use Rattle.cert_check.specs.Trees.{Tree, IsOptimalTree}
+use Rattle.cert_tree.specs.Trees.{Tree, IsOptimalTree}
 use Rattle.fleet_base.proofs.Edges.{head_there}
-use Rattle.cert_check.proofs.EdgeLaws.{visit_before}
-use Rattle.cert_check.specs.Orders.{KeepsClosed}
+use Rattle.cert_tree.proofs.EdgeLaws.{visit_before}
+use Rattle.cert_tree.specs.Orders.{KeepsClosed}
 use Rattle.std.proofs.lemmas.Option.{slice_get_within}
-use Rattle.cert_check.proofs.Walks.{tail_there}
-use Rattle.cert_check.proofs.TreeBound.{optimal_below}
+use Rattle.cert_tree.proofs.Walks.{tail_there}
+use Rattle.cert_tree.proofs.TreeBound.{optimal_below}
 
 module _ (g : Graph) (x : FleetState) (graph : IsGraph g) (order : ℕ → Option Side) (sound : IsSoundOrder g order) (keeps : KeepsClosed g x order)
     (s : Visit → ℕ) (schedule : IsSchedule g x s) (obeys : Obeys g x order s) where

@@ -4,11 +4,11 @@ use Rattle.std.specs.Prelude.{slice_get}
 use Rattle.fleet_base.specs.declared.order.Side.TheVariants.{Lower, Higher}
 use Rattle.cert_tree.specs.declared.node.Node.{Node}
 use Rattle.cert_tree.specs.declared.node.Node.TheVariants.{Branch, Force, Cyclic, Bound, OpenLeaf}
-use Rattle.cert_check.specs.Decisions.{Decision}
-use Rattle.cert_check.specs.Trees.{Tree, nodes_of, EachNode, branch_to, force_to, branch_count, left_costs}
-use Rattle.cert_check.specs.Trees.Tree.{Fork, Forced, Refuted, Bounded, Left}
-use Rattle.cert_check.specs.Verdicts.{ways_after, ways_left, branches_in, left_in}
-use Rattle.cert_check.specs.Judging.{EachListed}
+use Rattle.cert_tree.specs.Decisions.{Decision}
+use Rattle.cert_tree.specs.Trees.{Tree, nodes_of, EachNode, branch_to, force_to, branch_count, left_costs}
+use Rattle.cert_tree.specs.Trees.Tree.{Fork, Forced, Refuted, Bounded, Left}
+use Rattle.cert_tree.specs.Preorder.{ways_after, ways_left, branches_in, left_in}
+use Rattle.cert_tree.specs.Preorder.{EachListed}
 
 module _ (meets : List Decision → Node → Type 0) where
   -- the nodes of a tree, followed by others

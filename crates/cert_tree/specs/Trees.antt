@@ -11,8 +11,8 @@ use Rattle.fleet_base.specs.Schedule.{IsLeastSchedule, IsCost, ObeysSide, end_su
 use Rattle.cert_tree.specs.declared.node.CertPath.{CertPath}
 use Rattle.cert_tree.specs.declared.node.Node.{Node}
 use Rattle.cert_tree.specs.declared.node.Node.TheVariants.{Branch, Force, Cyclic, Bound, OpenLeaf}
-use Rattle.cert_check.specs.Decisions.{Decision, order_on, IsFree}
-use Rattle.cert_check.specs.Paths.{ArePaths, total_length}
+use Rattle.cert_tree.specs.Decisions.{Decision, order_on, IsFree}
+use Rattle.cert_tree.specs.Paths.{ArePaths, total_length}
 
 -- a tree of nodes
 pub data Tree : Type 0 where
