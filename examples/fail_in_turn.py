@@ -147,6 +147,7 @@ def strike_each(machine):
         right = machine.right(known)
         struck = list(itertools.takewhile(bool, (strike(machine, kind, known, what, number, right) for number in itertools.count(1))))
         statuses = collections.Counter(status for _, status in struck)
+        assert struck, f"no {what} was counted"
         if what == "call":
             folders = [call for call, _ in struck if call.startswith("fsync ")]
             assert folders == ["fsync FOLDER"], folders
@@ -230,6 +231,7 @@ def lose_each_sync(machine):
     lost = 0
     for known, later in itertools.product((0, 3), (NO_REPORT, REPORTS[:1], REPORTS)):
         lost += len(list(itertools.takewhile(bool, (lose_a_sync(machine, known, number, later) for number in itertools.count(1)))))
+    assert lost, "no sync was counted"
     print(f"syncs that failed and were forgotten: {lost}")
     return lost
 
@@ -284,7 +286,6 @@ def fail_a_sync(machine, loop, number):
                 status = struck.wait(timeout=60)
             finally:
                 loop.allow_writes()
-        # The opening's own sync writes only what it has written again itself.
         assert status == 6, (number, status, first)
         status, second = machine.session(journal, NO_REPORT)
         least = oks(second.splitlines(keepends=True), oks(first.splitlines(keepends=True), 0))
