@@ -4,3 +4,4 @@ pub mod CorridorMates
 pub mod RankLaws
 pub mod Rows
 pub mod Spreading
+pub mod Placing

@@ -36,7 +36,7 @@ behind ms xs ys zs ws =
     append_assoc (ms ++ xs ++ ys) zs ws ∙ append_assoc (ms ++ xs) ys (zs ++ ws) ∙ append_assoc ms xs (ys ++ (zs ++ ws)) in
     ap (drop (length ms)) e ∙ drop-append_seam ms (xs ++ (ys ++ (zs ++ ws)))
 
-part_kept : (mates more : List PairId) (place : ℕ) → place / 8 + place % 8 ≤ length mates → mates_at (mates ++ more) place ≡ mates_at mates place
+pub part_kept : (mates more : List PairId) (place : ℕ) → place / 8 + place % 8 ≤ length mates → mates_at (mates ++ more) place ≡ mates_at mates place
 part_kept mates more place h =
     let start : place / 8 ≤ length mates = omega (arith, h) in
     let count : place / 8 + place % 8 - place / 8 ≤ length (drop (place / 8) mates) = omega (arith, h, length-drop (place / 8) mates) in
@@ -75,6 +75,13 @@ module _ (g : Graph) (plan : IsPlanGraph g) where
     where
       next : (raise lead : ℕ) (c : Cursor) → IsCursorFor g c raise lead q → IsCursorFor g c raise lead (q + 1)
       next raise lead c h = (h.0, h.1, still_behind c.at raise lead q (q + 1) (omega arith) there h.2)
+
+  -- so is one that has found what is so far from a pair
+  pub cursor_next : (c new : Cursor) (raise lead q rank : ℕ) → q + 1 < length g.pairs → IsCursorFor g c raise lead q → rank ≡ rank_in g q → new.raise ≡ c.raise → new.lead ≡ c.lead → IsBehind g new.at c.raise (rank + c.lead) → IsCursorFor g new raise lead (q + 1)
+  cursor_next c new raise lead q rank there h e er el b =
+      let wanted : rank + c.lead ≡ rank_in g q + lead = omega (arith, e, h.1) in
+      let here : IsBehind g new.at raise (rank_in g q + lead) = subst (λ (n : ℕ). IsBehind g new.at raise n) wanted (subst (λ (n : ℕ). IsBehind g new.at n (rank + c.lead)) h.0 b) in
+      (er ∙ h.0, el ∙ h.1, still_behind new.at raise lead q (q + 1) (omega arith) there here)
 
   -- what such a cursor finds
   pub reached_for : (c : Cursor) (raise lead q rank : ℕ) (o : Option PairId) → IsCursorFor g c raise lead q → rank ≡ rank_in g q → IsReached g c.raise (rank + c.lead) o → IsReached g raise (rank_in g q + lead) o

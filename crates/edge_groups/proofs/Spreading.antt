@@ -13,7 +13,7 @@ use Rattle.edge_groups.specs.Names.{IsBeside, AreJoined, AreMutual, AreNames}
 use Rattle.edge_groups.specs.Naming.{IsNamed, IsNaming, AreNamed, AreFirstNamed, unnamed_in}
 
 -- one less has no name
-unnamed_less : (names : List ℕ) (m name : ℕ) → m < length names → get_or names m 0 ≡ 4294967295 → name ≢ 4294967295 → unnamed_in (set names m name) + 1 ≡ unnamed_in names
+pub unnamed_less : (names : List ℕ) (m name : ℕ) → m < length names → get_or names m 0 ≡ 4294967295 → name ≢ 4294967295 → unnamed_in (set names m name) + 1 ≡ unnamed_in names
 unnamed_less names m name there unnamed given =
     omega (arith, sum_by-set without names m name 0 there, ap without unnamed, go (name == 4294967295) refl)
   where

@@ -17,10 +17,10 @@ rows_in lists = map (mates_at lists.mates.items) lists.places.items
 abbrev pub AreWithin : List ℕ → ℕ → Type 0
 AreWithin places count = (k : ℕ) → k < length places → slice_index places k / 8 + slice_index places k % 8 ≤ count
 
--- the lists are kept for a million pairs at most, with four mates each at most
+-- the lists are kept for 1,048,576 pairs at most, with eight mates each at most
 pub record AreKept (lists : MateLists) : Type 0 where
   pub within : AreWithin lists.places.items (length lists.mates.items)
-  pub short : length lists.mates.items ≤ 4 * length lists.places.items
+  pub short : length lists.mates.items ≤ 8 * length lists.places.items
   pub few : length lists.places.items ≤ 1048576
 
 -- the mates are kept, and the least number of each group stands with each of its pairs

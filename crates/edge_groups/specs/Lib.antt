@@ -4,3 +4,4 @@ pub mod Ranks
 pub mod Finding
 pub mod Naming
 pub mod Kept
+pub mod Packing

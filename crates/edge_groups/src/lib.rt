@@ -6,6 +6,7 @@ pub mod laws;
 mod listing;
 mod lists;
 mod naming;
+mod packing;
 mod table;
 
 pub use table::{GroupTable, groups, mate_cycle};

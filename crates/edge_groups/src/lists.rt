@@ -43,7 +43,7 @@ impl MateLists {
         requires within { AreWithin self.old.places.items start }
         requires start { start ≤ vec_len self.old.mates }
         requires four { vec_len self.old.mates ≤ start + 4 }
-        requires short { vec_len self.old.mates ≤ 4 * vec_len self.old.places + 4 }
+        requires short { vec_len self.old.mates ≤ 8 * vec_len self.old.places + 4 }
         requires few { vec_len self.old.places < 1048576 }
         ensures kept { OnOk result (AreKept self.new) }
         ensures rows { OnOk result (rows_in self.new ≡ rows_in self.old ++ drop start self.old.mates.items ∷ []) }

@@ -8,6 +8,7 @@ ghost use Rattle.edge_groups.specs.Mates.{AreAllMates};
 use crate::listing::list_mates;
 use crate::lists::MateLists;
 use crate::naming::name_groups;
+use crate::packing::pack;
 use fleet_base::{Memory, PairId};
 use plan_graph::PlanGraph;
 use std::alloc::Global;
@@ -38,8 +39,9 @@ impl Model for GroupTable {
 pub fn groups(alloc: Global, graph: &PlanGraph) -> Result<GroupTable, Memory>
     ensures { IfOk result (AreAllMates graph.now) }
 {
-    let lists = list_mates(alloc, graph)?;
-    let names = name_groups(alloc, &lists)?;
+    let found = list_mates(alloc, graph)?;
+    let names = name_groups(alloc, &found)?;
+    let lists = pack(alloc, graph, &found)?;
     Ok(GroupTable { names, lists })
 }
 
