@@ -2,6 +2,10 @@
 #![tactic(auto)]
 
 #[cfg(test)]
+mod ahead;
+#[cfg(test)]
+mod decisions;
+#[cfg(test)]
 mod drawn;
 #[cfg(test)]
 mod fleets;

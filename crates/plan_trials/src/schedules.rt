@@ -1,14 +1,15 @@
 // Least schedules of the crossing and of the corridor: their sums, their paths, and a cycle.
 ghost use Rattle.std.specs.Prelude.{IfOk, OnOk};
+ghost use Rattle.fleet_base.specs.State.{IsWindow};
 ghost use Rattle.fleet_base.specs.Rules.{IsFleetState};
 ghost use Rattle.fleet_base.specs.Schedule.{IsLeastSchedule};
 ghost use Rattle.plan_graph.specs.Views.{order_in};
 ghost use Rattle.longest_path.specs.Ticks.{IsKeptFor, schedule_in};
 ghost use Rattle.longest_path.specs.Closed.{AgreesOnClosed};
 
-use crate::fleets::{first_of, hear, schedules, view_with};
-use crate::reading::sound_plan;
+use crate::fleets::{hear, schedules, view_with};
 use crate::reports::{MAP, PLAN, arrive, delay};
+use crate::steps::first_ahead;
 use fleet_base::{Fleet, PairId, PairList, Report, Side};
 use longest_path::{Ticks, earliest};
 use plan_graph::{Oriented, PlanGraph};
@@ -16,21 +17,33 @@ use std::alloc::Global;
 use std::test::Fail;
 
 /// A map and a plan on it.
-type Texts = (&'static [u8], &'static [u8]);
+pub type Texts = (&'static [u8], &'static [u8]);
 
-const CROSSING: Texts = (MAP, PLAN);
+pub const CROSSING: Texts = (MAP, PLAN);
 
-const CORRIDOR: Texts = (
+pub const CORRIDOR: Texts = (
     b"type octile\nheight 3\nwidth 6\nmap\n.@@@@.\n......\n.@@@@.\n",
     b"Agent 0: (0,0)->(1,0)->(1,1)->(1,2)->(1,3)->(1,4)->(1,5)->(2,5)\nAgent 1: (0,5)->(0,5)->(0,5)->(0,5)->(0,5)->(0,5)->(0,5)->(1,5)->(1,4)->(1,3)->(1,2)->(1,1)->(1,0)->(2,0)\n",
 );
 
 /// A plan with its first state, after these reports.
-fn after(alloc: Global, texts: Texts, reports: &[Report]) -> Result<(PlanGraph, Fleet), Fail>
+pub fn after(alloc: Global, texts: Texts, reports: &[Report]) -> Result<(PlanGraph, Fleet), Fail>
     ensures { IfOk result (λ made. IsFleetState made.0 made.1) }
 {
-    let plan = sound_plan(alloc, texts.0, texts.1)?;
-    let (graph, mut fleet) = first_of(alloc, &plan)?;
+    after_ahead(alloc, texts, 1, reports)
+}
+
+/// The same where a robot may hold so many releases.
+fn after_ahead(
+    alloc: Global,
+    texts: Texts,
+    window: u32,
+    reports: &[Report],
+) -> Result<(PlanGraph, Fleet), Fail>
+    requires { IsWindow window }
+    ensures { IfOk result (λ made. IsFleetState made.0 made.1) }
+{
+    let (graph, mut fleet) = first_ahead(alloc, texts.0, texts.1, window)?;
     hear_all(alloc, &graph, &mut fleet, reports)?;
     Ok((graph, fleet))
 }
@@ -128,7 +141,7 @@ fn schedules_have_these_sums_and_paths(rt: HostRuntime) -> Result<(), Fail> {
         arrive(0, 3, 3),
         arrive(0, 4, 4),
     ];
-    // A robot is under way, and the moment, its release, or its last arrival decides when its move can end.
+    // A robot is under way, and the moment, its release, or its release at its last arrival decides when its move can end.
     let by_the_moment = [delay(1, 1, 3, 10)];
     let by_the_release = [
         delay(1, 1, 5, 0),
@@ -136,7 +149,7 @@ fn schedules_have_these_sums_and_paths(rt: HostRuntime) -> Result<(), Fail> {
         arrive(0, 2, 2),
         arrive(0, 3, 3),
     ];
-    let by_the_arrival = [arrive(0, 1, 1), delay(0, 2, 4, 1)];
+    let at_the_arrival = [arrive(0, 1, 1), delay(0, 2, 4, 1)];
     let lower = [(0, Side::Lower)];
     let higher = [(0, Side::Higher)];
     let by_pair = [PairId(0)];
@@ -151,7 +164,7 @@ fn schedules_have_these_sums_and_paths(rt: HostRuntime) -> Result<(), Fail> {
         (CROSSING, &east_done, &[], 9, &[], &[]),
         (CROSSING, &by_the_moment, &[], 28, &[], &[]),
         (CROSSING, &by_the_release, &[], 14, &[], &[]),
-        (CROSSING, &by_the_arrival, &[], 17, &[], &by_pair),
+        (CROSSING, &at_the_arrival, &[], 17, &[], &by_pair),
         (CORRIDOR, &east_late, &ALL_LOWER, 31, &[], &last_pair),
     ];
     for row in rows {
@@ -165,6 +178,18 @@ fn holds(alloc: Global, row: &Row) -> Result<bool, Fail> {
     let (graph, fleet) = after(alloc, row.0, row.1)?;
     let found = least(alloc, &graph, &fleet, row.2)?;
     Ok(found.0 == row.3 && found.1.as_slice() == row.4 && found.2.as_slice() == row.5)
+}
+
+#[test]
+fn a_move_begins_after_the_arrival_before_it(rt: HostRuntime) -> Result<(), Fail> {
+    // Robot 0 was told its visit 2 at the start, and is at its visit 1 only ten ticks later.
+    let reports = [arrive(0, 1, 10), delay(0, 2, 4, 10)];
+    let (graph, fleet) = after_ahead(rt.alloc(), CROSSING, 2, &reports)?;
+    let found = least(rt.alloc(), &graph, &fleet, &[])?;
+    assert_eq!(rt; found.0, 35);
+    assert_eq!(rt; found.1.as_slice(), [].as_slice());
+    assert_eq!(rt; found.2.as_slice(), [PairId(0)].as_slice());
+    Ok(())
 }
 
 /// The pairs of the cycle that the schedule of a view has.
