@@ -6,3 +6,6 @@ pub mod WholeMap
 pub mod OneFault
 pub mod WrittenMap
 pub mod RoundTrip
+pub mod OneScenario
+pub mod TaskFields
+pub mod TaskPlaces

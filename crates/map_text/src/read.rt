@@ -42,8 +42,8 @@ pub fn read_map(alloc: Global, bytes: &[u8]) -> Result<Grid, MapError>
     }
 }
 
-// Tests that only empty lines follow the lines above, of which there are so many.
-fn check_end(bytes: &[u8], above: u32) -> Result<(), MapFault>
+/// Tests that only empty lines follow the lines above, of which there are so many.
+pub fn check_end(bytes: &[u8], above: u32) -> Result<(), MapFault>
     requires { above + length (file_lines bytes.now) < 2 ^ 32 }
     ensures ok { OnOk result (AreBlank (file_lines bytes.now)) }
     ensures err { IfErr result

@@ -1,4 +1,5 @@
 use super::*;
+use fleet_base::Cell;
 use std::test::Fail;
 
 // Each text, and the line and the kind of its first fault.
@@ -133,4 +134,108 @@ fn the_highest_map(rt: HostRuntime) -> Result<(), Fail> {
     let grid = read_map(rt.alloc(), text.as_bytes())?;
     assert_eq!(rt; write_map(rt.alloc(), &grid)?.as_slice(), text.as_bytes());
     Ok(())
+}
+
+// Each text, and the line and the kind of its first fault as a scenario.
+#[test]
+fn faults_of_scenarios(rt: HostRuntime) {
+    for (text, line, kind) in [
+        ("", 1, ScenKind::Version),
+        ("\nversion 1\n", 1, ScenKind::Version),
+        ("version 1.00\n", 1, ScenKind::Version),
+        ("version 2\n", 1, ScenKind::Version),
+        ("version 1 \n", 1, ScenKind::Version),
+        ("version\t1\n", 1, ScenKind::Version),
+        ("version 1", 2, ScenKind::Empty),
+        ("version 1.0\r\n\r\n\n", 2, ScenKind::Empty),
+        ("version 1\n \n", 2, ScenKind::Fields),
+        (
+            "version 1\n\nb\tm\t5\t3\t0\t1\t4\t1\t4\n",
+            2,
+            ScenKind::Fields,
+        ),
+        ("version 1\nb\tm\t5\t3\t0\t1\t4\t1\n", 2, ScenKind::Fields),
+        (
+            "version 1\nb\tm\t5\t3\t0\t1\t4\t1\t4\t4\n",
+            2,
+            ScenKind::Fields,
+        ),
+        ("version 1\nb\tm\t5\t3\t0\t1\t4\t1\t\n", 2, ScenKind::Fields),
+        ("version 1\n\tm\t5\t3\t0\t1\t4\t1\t4\n", 2, ScenKind::Fields),
+        ("version 1\nb\tm\tx\t3\t0\t1\t\t1\t4\n", 2, ScenKind::Fields),
+        ("version 1\nb m 5 3 0 1 4 1 4\n", 2, ScenKind::Fields),
+        (
+            "version 1\nb\tm\t5\t3\t0\t1\t4\tx\t4\n",
+            2,
+            ScenKind::Number,
+        ),
+        (
+            "version 1\nb\tm\t05\t3\t0\t1\t4\t1\t4\n",
+            2,
+            ScenKind::Number,
+        ),
+        (
+            "version 1\nb\tm\t5\t+3\t0\t1\t4\t1\t4\n",
+            2,
+            ScenKind::Number,
+        ),
+        (
+            "version 1\nb\tm\t5\t3\t-0\t1\t4\t1\t4\n",
+            2,
+            ScenKind::Number,
+        ),
+        (
+            "version 1\nb\tm\t5\t3\t0\t4294967296\t4\t1\t4\n",
+            2,
+            ScenKind::Number,
+        ),
+        (
+            "version 1\nb\tm\t5\t3\t0\t1\t4\t1\t4\n\nb\tm\t5\t3\t0\t1\t4\t1\t4\n",
+            3,
+            ScenKind::Fields,
+        ),
+        (
+            "version 1\nb\tm\t5\t3\t0\t1\t4\t1\t4\nb\tm\t5\t3\t0\t1\t4\t1 \t4\nx",
+            3,
+            ScenKind::Number,
+        ),
+    ] {
+        assert!(rt; text.len() < 100);
+        let found = read_scen(rt.alloc(), text.as_bytes()).err();
+        assert_eq!(rt;
+            found,
+            Some(ScenError::Fault(ScenFault { line, kind })),
+            "{text:?}"
+        );
+    }
+}
+
+// Each text, and its tasks: width, height, and the columns and rows of start and goal.
+#[test]
+fn scenarios_are_read(rt: HostRuntime) -> Result<(), Fail> {
+    for (text, tasks) in [
+        (
+            "version 1\n0\tm.map\t5\t3\t0\t1\t4\t1\t4\n0\tm.map\t5\t3\t2\t0\t2\t2\t2\n",
+            [(5, 3, (0, 1), (4, 1)), (5, 3, (2, 0), (2, 2))],
+        ),
+        (
+            "version 1.0\r\n7\ta b\t4294967295\t1\t2\t3\t4\t5\t20.48528137\r\n3\tx\t6\t7\t8\t9\t10\t0\tx\r\n\r\n\n\r",
+            [(4294967295, 1, (2, 3), (4, 5)), (6, 7, (8, 9), (10, 0))],
+        ),
+    ] {
+        assert!(rt; text.len() < 200);
+        let found = read_scen(rt.alloc(), text.as_bytes())?;
+        let wanted = tasks.map(|(width, height, start, goal)| Task {
+            width,
+            height,
+            start: cell_of(start),
+            goal: cell_of(goal),
+        });
+        assert_eq!(rt; found.as_slice(), wanted.as_slice(), "{text:?}");
+    }
+    Ok(())
+}
+
+fn cell_of((col, row): (u32, u32)) -> Cell {
+    Cell { row, col }
 }

@@ -1,0 +1,10 @@
+pub mod Chains
+pub mod Beside
+pub mod Ways
+pub mod Ends
+pub mod Once
+pub mod Found
+pub mod Leaving
+pub mod Around
+pub mod Spread
+pub mod Retrace

@@ -1,0 +1,5 @@
+use Rattle.path_planner.proofs.Retrace.{AreWaysFrom}
+use Rattle.path_planner.proofs.backward.keep_ways.Given as goal
+
+abbrev pub invariant-loop-tick : goal.invariant-loop-tick
+invariant-loop-tick l = AreWaysFrom l.grid l.fixed l.fn.task l.fn.layers l.tick l.layers

@@ -1,0 +1,5 @@
+use Rattle.path_planner.proofs.Retrace.{IsLedBy}
+use Rattle.path_planner.proofs.backward.least_path.Given as goal
+
+abbrev pub invariant-loop-tick : goal.invariant-loop-tick
+invariant-loop-tick l = IsLedBy l.grid l.fixed l.fn.task l.layers l.tick l.here l.path.items

@@ -1,0 +1,5 @@
+use Rattle.path_planner.proofs.Spread.{LayersTo}
+use Rattle.path_planner.proofs.forward.layers_to_arrival.Given as goal
+
+abbrev pub invariant-loop-tick : goal.invariant-loop-tick
+invariant-loop-tick l = LayersTo l.grid l.fixed l.task l.tick l.layers

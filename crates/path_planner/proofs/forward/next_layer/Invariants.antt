@@ -1,0 +1,5 @@
+use Rattle.path_planner.proofs.Spread.{LayerOf}
+use Rattle.path_planner.proofs.forward.next_layer.Given as goal
+
+abbrev pub invariant-loop-from : goal.invariant-loop-from
+invariant-loop-from l = LayerOf l.grid l.fixed l.tick l.layer l.from-index l.next

@@ -1,0 +1,153 @@
+ghost use Rattle.std.specs.Prelude.{ℕ, ◌≡◌, ◌-◌, ◌+◌, ◌<◌, ◌≤◌, [], ◌∷◌, ◌++◌, true, false, MatchOption, IfOk, OnOk, length, IsTrue, Contains};
+ghost use Rattle.fleet_base.specs.declared.geometry.Cell.{Cell};
+ghost use Rattle.fleet_base.specs.Grid.{is_free};
+ghost use Rattle.fleet_base.specs.Plan.{IsSound};
+ghost use Rattle.path_planner.specs.Steps.{IsClear, MayStep};
+ghost use Rattle.path_planner.specs.Layers.{LeadsTo, IsReached};
+ghost use Rattle.path_planner.specs.Search.{AreInTime, AreStood, AreWays, HasWays, IsKept, IsLeastInto, IsLeastPath, IsLesser, LeadsInto};
+
+use crate::cells::{around, is_before, is_in};
+use crate::forward::Layers;
+use crate::steps::may_step;
+use fleet_base::{Cell, Grid, Items, Memory, RawPlan};
+use map_text::Task;
+use std::alloc::Global;
+
+/// Leaves in each layer the cells from which the goal is reached at the last tick.
+pub(crate) fn keep_ways(
+    alloc: Global,
+    grid: &Grid,
+    fixed: &RawPlan,
+    task: Task,
+    layers: &mut Layers,
+) -> Result<(), Memory>
+    requires paths { AreInTime 4096 fixed.now }
+    requires sound { IsSound grid.now fixed.now }
+    requires ticks { length layers.old ≤ 4097 }
+    requires ways { HasWays grid.now fixed.now task layers.old }
+    requires goal { IsReached grid.now fixed.now task.start (length layers.old - 1) task.goal }
+    ensures ticks { OnOk result (length layers.new ≡ length layers.old) }
+    ensures ways { OnOk result (AreWays grid.now fixed.now task layers.new) }
+{
+    let last = layers.as_slice().len() - 1;
+    layers.set(last, Items::from_slice(alloc, &[task.goal])?);
+    for tick in (0..last).rev() {
+        let kept = keep_layer(
+            alloc,
+            grid,
+            fixed,
+            tick,
+            layers.row(tick),
+            layers.row(tick + 1),
+        )?;
+        layers.set(tick, kept);
+    }
+    Ok(())
+}
+
+/// The cells of a layer from which a step leads into the next one.
+fn keep_layer(
+    alloc: Global,
+    grid: &Grid,
+    fixed: &RawPlan,
+    tick: usize,
+    layer: &[Cell],
+    next: &[Cell],
+) -> Result<Items<Cell>, Memory>
+    requires paths { AreInTime 4096 fixed.now }
+    requires sound { IsSound grid.now fixed.now }
+    requires tick { tick ≤ 4096 }
+    requires stood { AreStood grid.now fixed.now tick layer.now }
+    ensures { IfOk result (IsKept grid.now fixed.now tick layer.now next.now) }
+{
+    let mut kept = Items::new(alloc);
+    for from in layer {
+        if leads_into(grid, fixed, tick, *from, next) {
+            kept.push(*from)?;
+        }
+    }
+    Ok(kept)
+}
+
+/// Whether a step leads from a cell into one of the next layer.
+fn leads_into(grid: &Grid, fixed: &RawPlan, tick: usize, from: Cell, next: &[Cell]) -> bool
+    requires paths { AreInTime 4096 fixed.now }
+    requires sound { IsSound grid.now fixed.now }
+    requires tick { tick ≤ 4096 }
+    requires free { IsTrue (is_free grid.now from) }
+    requires clear { IsClear fixed.now tick from }
+    ensures yes { result ≡ true → LeadsInto grid.now fixed.now tick from next.now }
+    ensures no { result ≡ false → ¬ LeadsInto grid.now fixed.now tick from next.now }
+{
+    for to in around(grid, from) {
+        if is_in(next, to) && may_step(grid, fixed, tick, from, to) {
+            return true;
+        }
+    }
+    false
+}
+
+/// The path that takes at each tick the least cell of the next layer into which it may step.
+pub(crate) fn least_path(
+    alloc: Global,
+    grid: &Grid,
+    fixed: &RawPlan,
+    task: Task,
+    layers: &Layers,
+) -> Result<Vec<Cell>, Memory>
+    requires paths { AreInTime 4096 fixed.now }
+    requires sound { IsSound grid.now fixed.now }
+    requires ticks { length layers.now ≤ 4097 }
+    requires ways { AreWays grid.now fixed.now task layers.now }
+    requires start { LeadsTo grid.now fixed.now task.goal (length layers.now - 1) 0 task.start }
+    requires stood { IsReached grid.now fixed.now task.start 0 task.start }
+    ensures { IfOk result (λ path. IsLeastPath grid.now fixed.now task (length layers.now) path.items) }
+{
+    let mut path = Vec::new(alloc);
+    push_cell(&mut path, task.start)?;
+    let mut here = task.start;
+    for tick in 0..layers.as_slice().len() - 1 {
+        here = least_step(grid, fixed, tick, here, layers.row(tick + 1));
+        push_cell(&mut path, here)?;
+    }
+    Ok(path)
+}
+
+/// Adds a cell to a path.
+fn push_cell(path: &mut Vec<Cell>, cell: Cell) -> Result<(), Memory>
+    ensures { OnOk result (path.new.items ≡ path.old.items ++ cell ∷ []) }
+{
+    match path.push(cell) {
+        Ok(()) => Ok(()),
+        Err(_) => Err(Memory),
+    }
+}
+
+/// The least cell of the next layer into which a step leads from a cell.
+fn least_step(grid: &Grid, fixed: &RawPlan, tick: usize, from: Cell, next: &[Cell]) -> Cell
+    requires paths { AreInTime 4096 fixed.now }
+    requires sound { IsSound grid.now fixed.now }
+    requires tick { tick ≤ 4096 }
+    requires free { IsTrue (is_free grid.now from) }
+    requires clear { IsClear fixed.now tick from }
+    requires leads { LeadsInto grid.now fixed.now tick from next.now }
+    ensures { IsLeastInto grid.now fixed.now tick from next.now result }
+{
+    let mut least = None;
+    for to in around(grid, from) {
+        if is_in(next, to) && may_step(grid, fixed, tick, from, to) {
+            least = Some(lesser(least, to));
+        }
+    }
+    least.unwrap()
+}
+
+/// The lesser of two cells, of which the first may be missing.
+fn lesser(least: Option<Cell>, other: Cell) -> Cell
+    ensures { MatchOption least (result ≡ other) (λ cell. IsLesser cell other result) }
+{
+    match least {
+        Some(cell) if !is_before(other, cell) => cell,
+        _ => other,
+    }
+}

@@ -1,0 +1,74 @@
+ghost use Rattle.std.specs.Prelude.{ℕ, ◌≡◌, ◌≤◌, ◌↔◌, ◌-◌, max, IfOk, OnOk, length};
+ghost use Rattle.fleet_base.specs.Plan.{IsSound};
+ghost use Rattle.path_planner.specs.Search.{AreInTime, IsBestPath, IsClearTick, IsLeaveTick};
+
+use crate::backward::{keep_ways, least_path};
+use crate::forward::layers_to_arrival;
+use fleet_base::{Cell, Grid, Memory, RawPlan};
+use map_text::Task;
+use std::alloc::Global;
+
+/// The best path for a task beside paths that are fixed, or none where there is no candidate.
+pub(crate) fn best_path(
+    alloc: Global,
+    grid: &Grid,
+    fixed: &RawPlan,
+    task: Task,
+    horizon: u32,
+) -> Result<Option<Vec<Cell>>, Memory>
+    requires robots { length fixed.now ≤ 256 }
+    requires paths { AreInTime horizon fixed.now }
+    requires sound { IsSound grid.now fixed.now }
+    requires horizon { horizon ≤ 4096 }
+    ensures { IfOk result (IsBestPath grid.now horizon fixed.now task) }
+{
+    let Some(from) = clear_tick(fixed, task.goal) else {
+        return Ok(None);
+    };
+    let Some(mut layers) = layers_to_arrival(alloc, grid, fixed, task, from, horizon)? else {
+        return Ok(None);
+    };
+    keep_ways(alloc, grid, fixed, task, &mut layers)?;
+    let path = least_path(alloc, grid, fixed, task, &layers)?;
+    Ok(Some(path))
+}
+
+/// The first tick from which on no fixed robot is in the cell.
+fn clear_tick(fixed: &RawPlan, at: Cell) -> Option<u32>
+    requires paths { AreInTime 4096 fixed.now }
+    ensures { IsClearTick fixed.now at result }
+{
+    let mut from = 0;
+    for robot in 0..fixed.robots() {
+        match left_at(fixed.cells(robot), at) {
+            Some(tick) => from = later(from, tick),
+            None => return None,
+        }
+    }
+    Some(from)
+}
+
+/// The later of two ticks.
+fn later(a: u32, b: u32) -> u32
+    ensures { result ≡ max a b }
+{
+    if a < b { b } else { a }
+}
+
+/// The first tick from which on a path is not in the cell, if it does not end there.
+fn left_at(path: &[Cell], at: Cell) -> Option<u32>
+    requires cells { 1 ≤ length path.now }
+    requires ticks { length path.now ≤ 4097 }
+    ensures { IsLeaveTick path.now at result }
+{
+    if path[path.len() - 1] == at {
+        return None;
+    }
+    let mut from = 0;
+    for tick in 0..path.len() {
+        if path[tick] == at {
+            from = tick as u32 + 1;
+        }
+    }
+    Some(from)
+}
