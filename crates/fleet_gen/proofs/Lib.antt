@@ -1,6 +1,3 @@
-pub mod Chains
-pub mod Beside
-pub mod Ends
 pub mod Courses
 pub mod Ways
 pub mod Drawing

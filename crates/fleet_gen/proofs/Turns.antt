@@ -10,7 +10,7 @@ use Rattle.fleet_base.specs.Plan.{IsSound, IsRotation}
 use Rattle.fleet_gen.specs.declared.road.Road.{Road}
 use Rattle.fleet_gen.specs.Roads.{IsRoad, moves_of, path_of}
 use Rattle.fleet_gen.specs.Departures.{road_at, AreRoads, IsLeastWait, IsEarliest, AreEarliest, AreBeside}
-use Rattle.fleet_gen.proofs.Chains.{first_step}
+use Rattle.plan_steps.proofs.Chains.{first_step}
 use Rattle.fleet_gen.proofs.Ways.{length-path, sound_late}
 
 pub few_moves : (r : Road) → IsRoad r → moves_of r ≤ 62

@@ -10,9 +10,9 @@ use Rattle.fleet_base.specs.Grid.{OccupancyGrid, is_free, distance}
 use Rattle.fleet_base.specs.Plan.{cell_at, no_cell, IsSound}
 use Rattle.fleet_gen.specs.declared.road.Road.{Road}
 use Rattle.fleet_gen.specs.Roads.{IsRoad, moves_of, cell_after, path_of}
-use Rattle.fleet_gen.specs.Steps.{path_at, Moves, IsClear, IsClosed, MayStep, IsStepwise}
+use Rattle.plan_steps.specs.Steps.{path_at, Moves, IsClear, IsClosed, MayStep, IsStepwise}
 use Rattle.fleet_gen.specs.Departures.{AreBeside, IsFreeRoad}
-use Rattle.fleet_gen.proofs.Beside.{stepwise, sound_together}
+use Rattle.plan_steps.proofs.Beside.{stepwise, sound_together}
 use Rattle.fleet_gen.proofs.Courses.{near, ends, apart_first, apart_last}
 
 pub one_more : (r : Road) (n : ℕ) → cell_after r (n + 1) ≡ cell_after r (suc n)

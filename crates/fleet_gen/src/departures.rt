@@ -4,8 +4,8 @@ ghost use Rattle.fleet_gen.specs.Roads.{IsRoad, path_of};
 ghost use Rattle.fleet_gen.specs.Departures.{AreBeside, AreEarliest, AreRoads, IsFreeRoad, IsLeastWait};
 
 use crate::Road;
-use crate::steps::may_step;
 use fleet_base::{Grid, Memory, RawPlan};
+use plan_steps::may_step;
 use std::alloc::Global;
 
 /// The plan of robots that depart in turn, each as early as it may beside those before it.

@@ -6,7 +6,6 @@ mod draws;
 mod fleet;
 pub mod laws;
 mod road;
-mod steps;
 mod vectors;
 
 pub use fleet::gen_fleet;

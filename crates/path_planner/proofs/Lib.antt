@@ -1,7 +1,4 @@
-pub mod Chains
-pub mod Beside
 pub mod Ways
-pub mod Ends
 pub mod Once
 pub mod Found
 pub mod Leaving

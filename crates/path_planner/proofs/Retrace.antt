@@ -11,7 +11,7 @@ use Rattle.fleet_base.specs.Lists.{row_of}
 use Rattle.fleet_base.specs.Plan.{no_cell}
 use Rattle.map_text.specs.declared.scenario.Task.{Task}
 use Rattle.path_planner.specs.Planning.{IsBefore}
-use Rattle.path_planner.specs.Steps.{IsClear, MayStep}
+use Rattle.plan_steps.specs.Steps.{IsClear, MayStep}
 use Rattle.path_planner.specs.Layers.{IsReached, LeadsTo, IsLeastStep, IsLeastWay}
 use Rattle.path_planner.specs.Search.{HasWays, AreWays, AreStood, LeadsInto, IsKept, IsAtMost, IsLesser, IsLeastInto, IsLeastPath}
 use Rattle.path_planner.proofs.Ways.{reached_clear}

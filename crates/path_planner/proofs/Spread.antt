@@ -10,7 +10,7 @@ use Rattle.fleet_base.specs.Grid.{OccupancyGrid, is_free, distance}
 use Rattle.fleet_base.specs.Lists.{row_of}
 use Rattle.fleet_base.specs.Plan.{no_cell}
 use Rattle.map_text.specs.declared.scenario.Task.{Task}
-use Rattle.path_planner.specs.Steps.{IsClear, MayStep}
+use Rattle.plan_steps.specs.Steps.{IsClear, MayStep}
 use Rattle.path_planner.specs.Layers.{IsClearFrom, IsReached, IsArrival, IsFirstArrival}
 use Rattle.path_planner.specs.Search.{EndAtArrival, AreStood, IsFirstLayer, StepsOut, IsNextLayer}
 use Rattle.path_planner.proofs.Ways.{reached_clear}

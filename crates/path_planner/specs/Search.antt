@@ -7,7 +7,7 @@ use Rattle.fleet_base.specs.Lists.{row_of}
 use Rattle.fleet_base.specs.Grid.{OccupancyGrid, is_free}
 use Rattle.map_text.specs.declared.scenario.Task.{Task}
 use Rattle.path_planner.specs.Planning.{IsCandidate, IsChosen, IsBefore}
-use Rattle.path_planner.specs.Steps.{path_at, IsClear, MayStep}
+use Rattle.plan_steps.specs.Steps.{path_at, IsClear, MayStep}
 use Rattle.path_planner.specs.Layers.{IsClearFrom, IsReached, LeadsTo, IsArrival, IsFirstArrival, IsLeastWay}
 
 -- each path has a cell and arrives by the horizon

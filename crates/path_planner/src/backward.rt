@@ -2,15 +2,15 @@ ghost use Rattle.std.specs.Prelude.{ℕ, ◌≡◌, ◌-◌, ◌+◌, ◌<◌, �
 ghost use Rattle.fleet_base.specs.declared.geometry.Cell.{Cell};
 ghost use Rattle.fleet_base.specs.Grid.{is_free};
 ghost use Rattle.fleet_base.specs.Plan.{IsSound};
-ghost use Rattle.path_planner.specs.Steps.{IsClear, MayStep};
+ghost use Rattle.plan_steps.specs.Steps.{IsClear, MayStep};
 ghost use Rattle.path_planner.specs.Layers.{LeadsTo, IsReached};
 ghost use Rattle.path_planner.specs.Search.{AreInTime, AreStood, AreWays, HasWays, IsKept, IsLeastInto, IsLeastPath, IsLesser, LeadsInto};
 
 use crate::cells::{around, is_before, is_in};
 use crate::forward::Layers;
-use crate::steps::may_step;
 use fleet_base::{Cell, Grid, Items, Memory, RawPlan};
 use map_text::Task;
+use plan_steps::may_step;
 use std::alloc::Global;
 
 /// Leaves in each layer the cells from which the goal is reached at the last tick.

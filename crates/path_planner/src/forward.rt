@@ -1,14 +1,14 @@
 ghost use Rattle.std.specs.Prelude.{ℕ, ◌≡◌, ◌≤◌, ◌↔◌, IfOk, OnOk, length, IsTrue, Contains};
 ghost use Rattle.fleet_base.specs.Grid.{is_free};
 ghost use Rattle.fleet_base.specs.Plan.{IsSound};
-ghost use Rattle.path_planner.specs.Steps.{IsClear};
+ghost use Rattle.plan_steps.specs.Steps.{IsClear};
 ghost use Rattle.path_planner.specs.Layers.{IsClearFrom};
 ghost use Rattle.path_planner.specs.Search.{AreInTime, AreLayers, AreStood, IsFirstLayer, IsNextLayer, StepsOut};
 
 use crate::cells::{around, is_in};
-use crate::steps::{is_clear, may_step};
 use fleet_base::{Cell, Grid, Items, Memory, RawPlan};
 use map_text::Task;
+use plan_steps::{is_clear, may_step};
 use std::alloc::Global;
 
 /// Cells by ticks.

@@ -8,7 +8,6 @@ mod forward;
 pub mod laws;
 mod plan;
 mod search;
-mod steps;
 mod tasks;
 
 pub use fault::{PlannerError, TaskWhy};

@@ -2,7 +2,7 @@ use Rattle.std.proofs.Common.{suc, ◌+◌, ◌*◌, ◌<◌, ◌≤◌, refl, s
 use Rattle.fleet_base.specs.declared.geometry.Cell.{Cell}
 use Rattle.fleet_base.specs.Grid.{distance}
 use Rattle.fleet_gen.specs.Roads.{cell_after, moves_of}
-use Rattle.fleet_gen.specs.Steps.{IsClear, MayStep}
+use Rattle.plan_steps.specs.Steps.{IsClear, MayStep}
 use Rattle.fleet_gen.proofs.Ways.{listed, clear_here, sound_going, going_sound, one_more}
 use Rattle.fleet_gen.proofs.Courses.{near}
 use Rattle.fleet_gen.proofs.departures.may_depart.Goals as goal

@@ -1,6 +1,6 @@
 use Rattle.std.proofs.Common.{ℕ, suc, ◌+◌, ◌<◌}
 use Rattle.fleet_gen.specs.Roads.{cell_after}
-use Rattle.fleet_gen.specs.Steps.{MayStep}
+use Rattle.plan_steps.specs.Steps.{MayStep}
 use Rattle.fleet_gen.proofs.departures.may_depart.Given as goal
 
 abbrev pub invariant-loop-moved : goal.invariant-loop-moved

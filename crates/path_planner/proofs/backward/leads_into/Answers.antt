@@ -1,7 +1,7 @@
 use Rattle.std.proofs.Common.{ℕ, get_or, below_more, arith}
 use Rattle.std.specs.Prelude.{Contains}
 use Rattle.fleet_base.specs.Plan.{no_cell}
-use Rattle.path_planner.specs.Steps.{MayStep}
+use Rattle.plan_steps.specs.Steps.{MayStep}
 use Rattle.path_planner.proofs.Retrace.{leads_nowhere}
 use Rattle.path_planner.proofs.backward.leads_into.Goals as goal
 use Rattle.path_planner.proofs.backward.leads_into.Goals.{else-is_in-via-then-is_in+else-may_step, else-is_in-via-else-is_in}

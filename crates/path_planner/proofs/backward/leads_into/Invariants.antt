@@ -1,7 +1,7 @@
 use Rattle.std.proofs.Common.{ℕ, ◌<◌, get_or}
 use Rattle.std.specs.Prelude.{Contains}
 use Rattle.fleet_base.specs.Plan.{no_cell}
-use Rattle.path_planner.specs.Steps.{MayStep}
+use Rattle.plan_steps.specs.Steps.{MayStep}
 use Rattle.path_planner.proofs.backward.leads_into.Given as goal
 
 abbrev pub invariant-loop-to : goal.invariant-loop-to

@@ -1,15 +1,14 @@
 ghost use Rattle.std.specs.Prelude.{◌≡◌, ◌≢◌, ◌+◌, ◌<◌, ◌≤◌, suc, true, false, length};
 ghost use Rattle.fleet_base.specs.Grid.{distance};
-ghost use Rattle.fleet_base.specs.Plan.{cell_at, IsSound, IsCollisionFree};
-ghost use Rattle.path_planner.specs.Search.{AreInTime};
-ghost use Rattle.path_planner.specs.Steps.{IsClear, MayStep};
-ghost use Rattle.path_planner.specs.Traffic.{EndsIn, IsRobotIn};
+ghost use Rattle.fleet_base.specs.Plan.{cell_at, IsCollisionFree};
+ghost use Rattle.plan_steps.specs.Steps.{IsClear, MayStep};
+ghost use Rattle.plan_steps.specs.Traffic.{AreListed, EndsIn, IsRobotIn};
 
 use fleet_base::{Cell, Grid, RawPlan};
 
 /// Whether one more robot may go from a cell, in which no fixed robot is, to this cell, its neighbour or itself.
-pub(crate) fn may_step(grid: &Grid, fixed: &RawPlan, tick: usize, from: Cell, to: Cell) -> bool
-    requires paths { AreInTime 4096 fixed.now }
+pub fn may_step(grid: &Grid, fixed: &RawPlan, tick: usize, from: Cell, to: Cell) -> bool
+    requires paths { AreListed fixed.now }
     requires apart { IsCollisionFree fixed.now }
     requires tick { tick ≤ 4096 }
     requires clear { IsClear fixed.now tick from }
@@ -28,7 +27,7 @@ pub(crate) fn may_step(grid: &Grid, fixed: &RawPlan, tick: usize, from: Cell, to
 
 /// Where the moves end that begin with this robot's, each into the cell from which the next one goes.
 fn end_of(fixed: &RawPlan, tick: usize, robot: usize) -> Cell
-    requires paths { AreInTime 4096 fixed.now }
+    requires paths { AreListed fixed.now }
     requires apart { IsCollisionFree fixed.now }
     requires tick { tick ≤ 4096 }
     requires robot { robot < length fixed.now }
@@ -43,8 +42,8 @@ fn end_of(fixed: &RawPlan, tick: usize, robot: usize) -> Cell
 }
 
 /// Whether no fixed robot is in a cell at a tick.
-pub(crate) fn is_clear(fixed: &RawPlan, tick: usize, at: Cell) -> bool
-    requires paths { AreInTime 4096 fixed.now }
+pub fn is_clear(fixed: &RawPlan, tick: usize, at: Cell) -> bool
+    requires { AreListed fixed.now }
     ensures yes { result ≡ true → IsClear fixed.now tick at }
     ensures no { result ≡ false → ¬ IsClear fixed.now tick at }
 {
@@ -53,7 +52,7 @@ pub(crate) fn is_clear(fixed: &RawPlan, tick: usize, at: Cell) -> bool
 
 /// The fixed robot that is in a cell at a tick.
 fn robot_in(fixed: &RawPlan, tick: usize, at: Cell) -> Option<usize>
-    requires paths { AreInTime 4096 fixed.now }
+    requires { AreListed fixed.now }
     ensures { IsRobotIn fixed.now tick at result }
 {
     for robot in 0..fixed.robots() {
@@ -66,7 +65,7 @@ fn robot_in(fixed: &RawPlan, tick: usize, at: Cell) -> Option<usize>
 
 /// The cell of a fixed robot at a tick.
 fn cell_of(fixed: &RawPlan, robot: usize, tick: usize) -> Cell
-    requires paths { AreInTime 4096 fixed.now }
+    requires paths { AreListed fixed.now }
     requires robot { robot < length fixed.now }
     ensures { result ≡ cell_at fixed.now robot tick }
 {

@@ -9,8 +9,8 @@ use Rattle.fleet_base.specs.Lists.{Chain}
 use Rattle.fleet_base.specs.Grid.{OccupancyGrid, is_free, distance}
 use Rattle.fleet_base.specs.Plan.{cell_at, no_cell, Follows, IsRotation, IsCollisionFree, IsSound}
 use Rattle.fleet_base.proofs.Members.{head_in, tail_in}
-use Rattle.fleet_gen.specs.Steps.{path_at, Moves, IsClear, IsClosed, IsStepwise}
-use Rattle.fleet_gen.proofs.Chains.{in_or_not, ring_from, first_step, step_of, no_round}
+use Rattle.plan_steps.specs.Steps.{path_at, Moves, IsClear, IsClosed, IsStepwise}
+use Rattle.plan_steps.proofs.Chains.{in_or_not, ring_from, first_step, step_of, no_round}
 
 module _ (fixed : List (List Cell)) (path : List Cell) where
   abbrev pub together : List (List Cell)
