@@ -10,6 +10,8 @@ mod drawn;
 #[cfg(test)]
 mod fleets;
 #[cfg(test)]
+mod groups;
+#[cfg(test)]
 mod limits;
 #[cfg(test)]
 mod reading;
