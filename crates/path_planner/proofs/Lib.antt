@@ -5,3 +5,4 @@ pub mod Leaving
 pub mod Around
 pub mod Spread
 pub mod Retrace
+pub mod TableLaws

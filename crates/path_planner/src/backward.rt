@@ -4,13 +4,15 @@ ghost use Rattle.fleet_base.specs.Grid.{is_free};
 ghost use Rattle.fleet_base.specs.Plan.{IsSound};
 ghost use Rattle.plan_steps.specs.Steps.{IsClear, MayStep};
 ghost use Rattle.path_planner.specs.Layers.{LeadsTo, IsReached};
+ghost use Rattle.path_planner.specs.Tables.{AreAt, CoverGrid, Covers, TellsPlaces};
 ghost use Rattle.path_planner.specs.Search.{AreInTime, AreStood, AreWays, HasWays, IsKept, IsLeastInto, IsLeastPath, IsLesser, LeadsInto};
 
 use crate::cells::{around, is_before, is_in};
 use crate::forward::Layers;
+use crate::steps::{Traffic, may_step, turn_to};
+use crate::tables::{CellTable, is_listed, put_places};
 use fleet_base::{Cell, Grid, Items, Memory, RawPlan};
 use map_text::Task;
-use plan_steps::may_step;
 use std::alloc::Global;
 
 /// Leaves in each layer the cells from which the goal is reached at the last tick.
@@ -18,6 +20,8 @@ pub(crate) fn keep_ways(
     alloc: Global,
     grid: &Grid,
     fixed: &RawPlan,
+    traffic: &mut Traffic,
+    places: &mut CellTable,
     task: Task,
     layers: &mut Layers,
 ) -> Result<(), Memory>
@@ -26,6 +30,9 @@ pub(crate) fn keep_ways(
     requires ticks { length layers.old ≤ 4097 }
     requires ways { HasWays grid.now fixed.now task layers.old }
     requires goal { IsReached grid.now fixed.now task.start (length layers.old - 1) task.goal }
+    requires traffic { CoverGrid grid.now traffic.old }
+    requires places { Covers grid.now places.old }
+    ensures traffic { CoverGrid grid.now traffic.new }
     ensures ticks { OnOk result (length layers.new ≡ length layers.old) }
     ensures ways { OnOk result (AreWays grid.now fixed.now task layers.new) }
 {
@@ -36,6 +43,8 @@ pub(crate) fn keep_ways(
             alloc,
             grid,
             fixed,
+            traffic,
+            places,
             tick,
             layers.row(tick),
             layers.row(tick + 1),
@@ -50,6 +59,8 @@ fn keep_layer(
     alloc: Global,
     grid: &Grid,
     fixed: &RawPlan,
+    traffic: &mut Traffic,
+    places: &mut CellTable,
     tick: usize,
     layer: &[Cell],
     next: &[Cell],
@@ -58,11 +69,18 @@ fn keep_layer(
     requires sound { IsSound grid.now fixed.now }
     requires tick { tick ≤ 4096 }
     requires stood { AreStood grid.now fixed.now tick layer.now }
-    ensures { IfOk result (IsKept grid.now fixed.now tick layer.now next.now) }
+    requires next { (c : Cell) → Contains next.now c → IsTrue (is_free grid.now c) }
+    requires traffic { CoverGrid grid.now traffic.old }
+    requires places { Covers grid.now places.old }
+    ensures kept { IfOk result (IsKept grid.now fixed.now tick layer.now next.now) }
+    ensures traffic { CoverGrid grid.now traffic.new }
+    ensures places { Covers grid.now places.new }
 {
+    turn_to(grid, fixed, tick, traffic);
+    put_places(grid, next, places);
     let mut kept = Items::new(alloc);
     for from in layer {
-        if leads_into(grid, fixed, tick, *from, next) {
+        if leads_into(grid, fixed, traffic, tick, *from, next, places) {
             kept.push(*from)?;
         }
     }
@@ -70,17 +88,27 @@ fn keep_layer(
 }
 
 /// Whether a step leads from a cell into one of the next layer.
-fn leads_into(grid: &Grid, fixed: &RawPlan, tick: usize, from: Cell, next: &[Cell]) -> bool
+fn leads_into(
+    grid: &Grid,
+    fixed: &RawPlan,
+    traffic: &Traffic,
+    tick: usize,
+    from: Cell,
+    next: &[Cell],
+    places: &CellTable,
+) -> bool
     requires paths { AreInTime 4096 fixed.now }
     requires sound { IsSound grid.now fixed.now }
     requires tick { tick ≤ 4096 }
     requires free { IsTrue (is_free grid.now from) }
     requires clear { IsClear fixed.now tick from }
+    requires at { AreAt fixed.now tick traffic.now }
+    requires places { TellsPlaces next.now places.now }
     ensures yes { result ≡ true → LeadsInto grid.now fixed.now tick from next.now }
     ensures no { result ≡ false → ¬ LeadsInto grid.now fixed.now tick from next.now }
 {
     for to in around(grid, from) {
-        if is_in(next, to) && may_step(grid, fixed, tick, from, to) {
+        if is_listed(next, places, to) && may_step(grid, fixed, traffic, tick, from, to) {
             return true;
         }
     }
@@ -92,6 +120,7 @@ pub(crate) fn least_path(
     alloc: Global,
     grid: &Grid,
     fixed: &RawPlan,
+    traffic: &mut Traffic,
     task: Task,
     layers: &Layers,
 ) -> Result<Vec<Cell>, Memory>
@@ -101,13 +130,15 @@ pub(crate) fn least_path(
     requires ways { AreWays grid.now fixed.now task layers.now }
     requires start { LeadsTo grid.now fixed.now task.goal (length layers.now - 1) 0 task.start }
     requires stood { IsReached grid.now fixed.now task.start 0 task.start }
+    requires traffic { CoverGrid grid.now traffic.old }
     ensures { IfOk result (λ path. IsLeastPath grid.now fixed.now task (length layers.now) path.items) }
 {
     let mut path = Vec::new(alloc);
     push_cell(&mut path, task.start)?;
     let mut here = task.start;
     for tick in 0..layers.as_slice().len() - 1 {
-        here = least_step(grid, fixed, tick, here, layers.row(tick + 1));
+        turn_to(grid, fixed, tick, traffic);
+        here = least_step(grid, fixed, traffic, tick, here, layers.row(tick + 1));
         push_cell(&mut path, here)?;
     }
     Ok(path)
@@ -124,18 +155,26 @@ fn push_cell(path: &mut Vec<Cell>, cell: Cell) -> Result<(), Memory>
 }
 
 /// The least cell of the next layer into which a step leads from a cell.
-fn least_step(grid: &Grid, fixed: &RawPlan, tick: usize, from: Cell, next: &[Cell]) -> Cell
+fn least_step(
+    grid: &Grid,
+    fixed: &RawPlan,
+    traffic: &Traffic,
+    tick: usize,
+    from: Cell,
+    next: &[Cell],
+) -> Cell
     requires paths { AreInTime 4096 fixed.now }
     requires sound { IsSound grid.now fixed.now }
     requires tick { tick ≤ 4096 }
     requires free { IsTrue (is_free grid.now from) }
     requires clear { IsClear fixed.now tick from }
     requires leads { LeadsInto grid.now fixed.now tick from next.now }
+    requires at { AreAt fixed.now tick traffic.now }
     ensures { IsLeastInto grid.now fixed.now tick from next.now result }
 {
     let mut least = None;
     for to in around(grid, from) {
-        if is_in(next, to) && may_step(grid, fixed, tick, from, to) {
+        if is_in(next, to) && may_step(grid, fixed, traffic, tick, from, to) {
             least = Some(lesser(least, to));
         }
     }

@@ -3,12 +3,14 @@ ghost use Rattle.fleet_base.specs.Grid.{is_free};
 ghost use Rattle.fleet_base.specs.Plan.{IsSound};
 ghost use Rattle.plan_steps.specs.Steps.{IsClear};
 ghost use Rattle.path_planner.specs.Layers.{IsClearFrom};
+ghost use Rattle.path_planner.specs.Tables.{AreAt, CoverGrid, Covers, TellsPlaces};
 ghost use Rattle.path_planner.specs.Search.{AreInTime, AreLayers, AreStood, IsFirstLayer, IsNextLayer, StepsOut};
 
 use crate::cells::{around, is_in};
+use crate::steps::{Traffic, is_clear, may_step, turn_to};
+use crate::tables::{CellTable, is_listed, put};
 use fleet_base::{Cell, Grid, Items, Memory, RawPlan};
 use map_text::Task;
-use plan_steps::{is_clear, may_step};
 use std::alloc::Global;
 
 /// Cells by ticks.
@@ -20,6 +22,8 @@ pub(crate) fn layers_to_arrival(
     alloc: Global,
     grid: &Grid,
     fixed: &RawPlan,
+    traffic: &mut Traffic,
+    places: &mut CellTable,
     task: Task,
     from: u32,
     horizon: u32,
@@ -28,7 +32,11 @@ pub(crate) fn layers_to_arrival(
     requires sound { IsSound grid.now fixed.now }
     requires horizon { horizon ≤ 4096 }
     requires from { (t : ℕ) → IsClearFrom fixed.now t task.goal ↔ (from ≤ t) }
-    ensures { IfOk result (AreLayers grid.now fixed.now task horizon) }
+    requires traffic { CoverGrid grid.now traffic.old }
+    requires places { Covers grid.now places.old }
+    ensures layers { IfOk result (AreLayers grid.now fixed.now task horizon) }
+    ensures traffic { CoverGrid grid.now traffic.new }
+    ensures places { Covers grid.now places.new }
 {
     let mut layers = Layers::new(alloc);
     layers.push(first_layer(alloc, grid, fixed, task.start)?)?;
@@ -37,7 +45,7 @@ pub(crate) fn layers_to_arrival(
         if tick >= from && is_in(layer, task.goal) {
             return Ok(Some(layers));
         }
-        let next = next_layer(alloc, grid, fixed, tick as usize, layer)?;
+        let next = next_layer(alloc, grid, fixed, traffic, places, tick as usize, layer)?;
         layers.push(next)?;
     }
     Ok(None)
@@ -65,6 +73,8 @@ fn next_layer(
     alloc: Global,
     grid: &Grid,
     fixed: &RawPlan,
+    traffic: &mut Traffic,
+    places: &mut CellTable,
     tick: usize,
     layer: &[Cell],
 ) -> Result<Items<Cell>, Memory>
@@ -72,11 +82,16 @@ fn next_layer(
     requires sound { IsSound grid.now fixed.now }
     requires tick { tick ≤ 4096 }
     requires stood { AreStood grid.now fixed.now tick layer.now }
-    ensures { IfOk result (IsNextLayer grid.now fixed.now tick layer.now) }
+    requires traffic { CoverGrid grid.now traffic.old }
+    requires places { Covers grid.now places.old }
+    ensures layer { IfOk result (IsNextLayer grid.now fixed.now tick layer.now) }
+    ensures traffic { CoverGrid grid.now traffic.new }
+    ensures places { Covers grid.now places.new }
 {
+    turn_to(grid, fixed, tick, traffic);
     let mut next = Items::new(alloc);
     for from in layer {
-        step_out(grid, fixed, tick, *from, &mut next)?;
+        step_out(grid, fixed, traffic, tick, *from, places, &mut next)?;
     }
     Ok(next)
 }
@@ -85,8 +100,10 @@ fn next_layer(
 fn step_out(
     grid: &Grid,
     fixed: &RawPlan,
+    traffic: &Traffic,
     tick: usize,
     from: Cell,
+    places: &mut CellTable,
     next: &mut Items<Cell>,
 ) -> Result<(), Memory>
     requires paths { AreInTime 4096 fixed.now }
@@ -94,10 +111,18 @@ fn step_out(
     requires tick { tick ≤ 4096 }
     requires free { IsTrue (is_free grid.now from) }
     requires clear { IsClear fixed.now tick from }
-    ensures { OnOk result (StepsOut grid.now fixed.now tick from next.old next.new) }
+    requires at { AreAt fixed.now tick traffic.now }
+    requires covers { Covers grid.now places.old }
+    requires places { TellsPlaces next.old places.old }
+    ensures steps { OnOk result (StepsOut grid.now fixed.now tick from next.old next.new) }
+    ensures covers { Covers grid.now places.new }
+    ensures places { OnOk result (TellsPlaces next.new places.new) }
 {
     for to in around(grid, from) {
-        if !is_in(next.as_slice(), to) && may_step(grid, fixed, tick, from, to) {
+        if !is_listed(next.as_slice(), places, to)
+            && may_step(grid, fixed, traffic, tick, from, to)
+        {
+            put(places, to, next.as_slice().len());
             next.push(to)?;
         }
     }

@@ -8,6 +8,8 @@ mod forward;
 pub mod laws;
 mod plan;
 mod search;
+mod steps;
+mod tables;
 mod tasks;
 
 pub use fault::{PlannerError, TaskWhy};

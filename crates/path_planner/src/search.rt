@@ -4,6 +4,8 @@ ghost use Rattle.path_planner.specs.Search.{AreInTime, IsBestPath, IsClearTick, 
 
 use crate::backward::{keep_ways, least_path};
 use crate::forward::layers_to_arrival;
+use crate::steps::Traffic;
+use crate::tables::new_table;
 use fleet_base::{Cell, Grid, Memory, RawPlan};
 use map_text::Task;
 use std::alloc::Global;
@@ -25,11 +27,34 @@ pub(crate) fn best_path(
     let Some(from) = clear_tick(fixed, task.goal) else {
         return Ok(None);
     };
-    let Some(mut layers) = layers_to_arrival(alloc, grid, fixed, task, from, horizon)? else {
+    let mut traffic = Traffic {
+        here: new_table(alloc, grid)?,
+        after: new_table(alloc, grid)?,
+    };
+    let mut places = new_table(alloc, grid)?;
+    let found = layers_to_arrival(
+        alloc,
+        grid,
+        fixed,
+        &mut traffic,
+        &mut places,
+        task,
+        from,
+        horizon,
+    )?;
+    let Some(mut layers) = found else {
         return Ok(None);
     };
-    keep_ways(alloc, grid, fixed, task, &mut layers)?;
-    let path = least_path(alloc, grid, fixed, task, &layers)?;
+    keep_ways(
+        alloc,
+        grid,
+        fixed,
+        &mut traffic,
+        &mut places,
+        task,
+        &mut layers,
+    )?;
+    let path = least_path(alloc, grid, fixed, &mut traffic, task, &layers)?;
     Ok(Some(path))
 }
 

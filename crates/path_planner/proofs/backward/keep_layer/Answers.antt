@@ -19,5 +19,5 @@ loop-from-preserved c =
           (left_out c.args.grid.now c.args.fixed.now c.args.tick c.args.layer.now c.args.next.now index c.loop-from.kept _ c.loop-from.invariant refl (c.leads_into.ensures.no w.if-leads_into.false))
     ]
 
-pub returns : goal.returns
-returns c = all_kept c.args.grid.now c.args.fixed.now c.args.tick c.args.layer.now c.args.next.now c.loop-from.from-index c.loop-from.kept c.loop-from.invariant (omega arith)
+pub returns-clause-kept : goal.returns-clause-kept
+returns-clause-kept c = all_kept c.args.grid.now c.args.fixed.now c.args.tick c.args.layer.now c.args.next.now c.loop-from.from-index c.loop-from.kept c.loop-from.invariant (omega arith)

@@ -6,7 +6,11 @@ pub step_out-requires-clause-clear : goal.step_out-requires-clause-clear
 step_out-requires-clause-clear c = (stood_at c.args.grid.now c.args.fixed.now c.args.tick c.args.layer.now c.requires.stood c.loop-from.from-index _ (omega arith) refl).1
 
 pub loop-from-preserved : goal.loop-from-preserved
-loop-from-preserved c = layer_grown c.args.grid.now c.args.fixed.now c.args.tick c.args.layer.now c.loop-from.from-index _ c.loop-from.next c.step_out.new.next c.loop-from.invariant (omega arith) refl c.in_ok-step_out.ensures
+loop-from-preserved c = record {
+  layer = layer_grown c.args.grid.now c.args.fixed.now c.args.tick c.args.layer.now c.loop-from.from-index _ c.loop-from.next c.step_out.new.next c.loop-from.invariant.layer (omega arith) refl c.in_ok-step_out.ensures.steps;
+  covers = c.step_out.ensures.covers;
+  places = c.in_ok-step_out.ensures.places;
+}
 
-pub returns : goal.returns
-returns c = whole_layer c.args.grid.now c.args.fixed.now c.args.tick c.args.layer.now c.loop-from.from-index c.loop-from.next c.loop-from.invariant (omega arith)
+pub returns-clause-layer : goal.returns-clause-layer
+returns-clause-layer c = whole_layer c.args.grid.now c.args.fixed.now c.args.tick c.args.layer.now c.loop-from.from-index c.loop-from.next c.loop-from.invariant.layer (omega arith)

@@ -10,23 +10,23 @@ use Rattle.path_planner.proofs.search.best_path.Goals as goal
 pub returns-in_default : goal.returns-in_default
 returns-in_default c = no_candidate c.args.grid.now c.args.fixed.now c.requires.sound c.args.horizon c.args.task (λ t h a. c.in_default.ensures t a.stays)
 
-pub returns-in_default-2 : goal.returns-in_default-2
-returns-in_default-2 c =
-    let none = subst (λ (o : Option (Items (Items Cell))). AreLayers c.args.grid.now c.args.fixed.now c.args.task c.args.horizon o) c.in_default-2.is c.in_ok-layers.ensures in
+pub returns-in_default-found : goal.returns-in_default-found
+returns-in_default-found c =
+    let none = subst (λ (o : Option (Items (Items Cell))). AreLayers c.args.grid.now c.args.fixed.now c.args.task c.args.horizon o) c.in_default-found.is c.in_ok-found.ensures.layers in
     no_candidate c.args.grid.now c.args.fixed.now c.requires.sound c.args.horizon c.args.task none
 
 pub least_path-requires-clause-start : goal.least_path-requires-clause-start
 least_path-requires-clause-start c =
-    let found = subst (λ (o : Option (Items (Items Cell))). AreLayers c.args.grid.now c.args.fixed.now c.args.task c.args.horizon o) c.in-Some-2.is c.in_ok-layers.ensures in
-    start_leads c.args.grid.now c.args.fixed.now c.args.task c.args.horizon c.in-Some-2.layers found _ c.in_ok-keep_ways.ensures.ticks
+    let found = subst (λ (o : Option (Items (Items Cell))). AreLayers c.args.grid.now c.args.fixed.now c.args.task c.args.horizon o) c.in-Some-found.is c.in_ok-found.ensures.layers in
+    start_leads c.args.grid.now c.args.fixed.now c.args.task c.args.horizon c.in-Some-found.layers found _ c.in_ok-keep_ways.ensures.ticks
 
 pub least_path-requires-clause-stood : goal.least_path-requires-clause-stood
 least_path-requires-clause-stood c =
-    let found = subst (λ (o : Option (Items (Items Cell))). AreLayers c.args.grid.now c.args.fixed.now c.args.task c.args.horizon o) c.in-Some-2.is c.in_ok-layers.ensures in
+    let found = subst (λ (o : Option (Items (Items Cell))). AreLayers c.args.grid.now c.args.fixed.now c.args.task c.args.horizon o) c.in-Some-found.is c.in_ok-found.ensures.layers in
     let s = start_of c.args.grid.now c.args.fixed.now c.requires.sound c.args.horizon c.args.task _ c.args.task.goal found.arrival.here.reached in
     (refl, s.0, s.1)
 
 pub returns : goal.returns
 returns c =
-    let found = subst (λ (o : Option (Items (Items Cell))). AreLayers c.args.grid.now c.args.fixed.now c.args.task c.args.horizon o) c.in-Some-2.is c.in_ok-layers.ensures in
-    chosen_path c.args.grid.now c.args.fixed.now c.args.task c.args.horizon c.in-Some-2.layers found _ c.in_ok-keep_ways.ensures.ticks c.requires.sound c.in_ok-path.path.items c.in_ok-path.ensures
+    let found = subst (λ (o : Option (Items (Items Cell))). AreLayers c.args.grid.now c.args.fixed.now c.args.task c.args.horizon o) c.in-Some-found.is c.in_ok-found.ensures.layers in
+    chosen_path c.args.grid.now c.args.fixed.now c.args.task c.args.horizon c.in-Some-found.layers found _ c.in_ok-keep_ways.ensures.ticks c.requires.sound c.in_ok-path.path.items c.in_ok-path.ensures
