@@ -1,5 +1,5 @@
 -- What the sides of an order give, and how large the cost of an order can be.
-use Rattle.std.proofs.Common.{ℕ, suc, zero, ◌≡◌, ◌+◌, ◌-◌, ◌*◌, ◌^◌, ◌<◌, ◌≤◌, List, Option, true, false, Bool, cond, refl, sym, ap, ◌∙◌, subst, arith, length, map}
+use Rattle.std.proofs.Common.{ℕ, suc, zero, ◌≡◌, ◌+◌, ◌-◌, ◌*◌, ◌^◌, ◌<◌, ◌≤◌, List, Option, true, false, Bool, cond, refl, sym, ap, ◌∙◌, subst, arith, length}
 use Rattle.std.specs.Prelude.{sum_by}
 use Rattle.std.specs.List.{range_with_len}
 use Rattle.fleet_base.specs.declared.geometry.Visit.{Visit}
@@ -14,7 +14,7 @@ use Rattle.plan_graph.specs.Limits.{visit_count, IsWithinLimits}
 use Rattle.cert_tree.specs.Orders.{KeepsClosed}
 use Rattle.cert_tree.proofs.EdgeLaws.{visit}
 use Rattle.cert_tree.proofs.Walks.{sum_more}
-use Rattle.cert_check.specs.Rounds.{rounds, HasTicks}
+use Rattle.cert_check.specs.Rounds.{rounds}
 use Rattle.cert_check.specs.Sides.{decided, order_by}
 use Rattle.cert_check.proofs.Least.{rounds_are_enough}
 use Rattle.cert_check.proofs.RoundLaws.{raised_bound}

@@ -1,7 +1,6 @@
 -- Groups by their names, and the rule on them as a checker finds it.
-use Rattle.std.proofs.Common.{ℕ, suc, zero, ◌≡◌, ◌+◌, ◌<◌, ◌≤◌, ◌⊎◌, List, [], ◌∷◌, ◌++◌, Some, None, Option, true, false, Bool, cond, refl, sym, ap, ◌∙◌, subst, inl, inr, arith, length, take, reverse, set, get_or, append_assoc}
-use native.Mathlib.Numerals.{unary_clauses}
-use Rattle.std.specs.Prelude.{slice_get, replicate, Contains, IsTrue, not, map}
+use Rattle.std.proofs.Common.{ℕ, suc, zero, ◌≡◌, ◌+◌, ◌<◌, ◌≤◌, ◌⊎◌, List, [], ◌∷◌, ◌++◌, Some, None, Option, true, false, Bool, refl, sym, ap, ◌∙◌, subst, inl, inr, arith, length, take, reverse, set, append_assoc}
+use Rattle.std.specs.Prelude.{slice_get, replicate, Contains, IsTrue, not}
 use Rattle.std.proofs.lemmas.Bool.{cases_eq, cases_lt, false≢true}
 use Rattle.std.proofs.lemmas.List.{reverse-append, get_or-replicate, length-replicate, get_or-set_same, get_or-set_other}
 use Rattle.std.proofs.Math.ListN.{get_or-eq_default}
@@ -12,9 +11,9 @@ use Rattle.fleet_base.specs.Lists.{Chain}
 use Rattle.fleet_base.specs.Order.{Graph}
 use Rattle.fleet_base.specs.State.{FleetState}
 use Rattle.fleet_base.specs.Open.{is_open}
-use Rattle.fleet_base.specs.Groups.{AreMates, AreGrouped, IsGroupOf, IsInOpenGroup}
-use Rattle.fleet_base.proofs.Members.{head_in, tail_in, in_cons, in_none}
-use Rattle.cert_tree.specs.Decisions.{Decision, side_on}
+use Rattle.fleet_base.specs.Groups.{AreMates, AreGrouped, IsGroupOf}
+use Rattle.fleet_base.proofs.Members.{head_in, tail_in, in_cons}
+use Rattle.cert_tree.specs.Decisions.{Decision}
 use Rattle.cert_tree.specs.GroupRules.{branch_pairs, HasGroupLeft}
 use Rattle.cert_tree.proofs.Branches.{grouped_back, grouped_on}
 use Rattle.cert_check.specs.declared.way.Step.{Step}
@@ -22,7 +21,7 @@ use Rattle.cert_check.specs.declared.way.Step.TheVariants.{Lower, Higher, Forced
 use Rattle.cert_check.specs.Judging.{Gives}
 use Rattle.cert_check.specs.Sides.{decided}
 use Rattle.cert_check.specs.Taken.{IsFreeBy, AreTaken, taken_at}
-use Rattle.cert_check.specs.Ways.{step_pair, branch_of, decision_of, way_of, AreWithin}
+use Rattle.cert_check.specs.Ways.{step_pair, branch_of, way_of, AreWithin}
 use Rattle.cert_check.proofs.SideLaws.{open_within}
 
 module _ (g : Graph) where

@@ -1,16 +1,15 @@
 -- How long the moves of a robot last, summed up from its first visit on.
-use Rattle.std.proofs.Common.{ℕ, suc, zero, ◌≡◌, ◌+◌, ◌-◌, ◌*◌, ◌<◌, ◌≤◌, ◌⊎◌, List, refl, sym, ap, ◌∙◌, subst, inl, inr, arith, length, map, set}
-use Rattle.std.proofs.lemmas.Bool.{cases_lt, cases_eq}
+use Rattle.std.proofs.Common.{ℕ, suc, zero, ◌≡◌, ◌+◌, ◌-◌, ◌*◌, ◌<◌, ◌≤◌, ◌⊎◌, List, sym, ap, ◌∙◌, subst, inl, inr, arith, length, set}
+use Rattle.std.proofs.lemmas.Bool.{cases_eq}
 use Rattle.fleet_base.specs.declared.geometry.Visit.{Visit}
 use Rattle.fleet_base.specs.Lists.{row_of}
 use Rattle.fleet_base.specs.Order.{Graph, IsVisit, last_in}
-use Rattle.fleet_base.specs.State.{FleetState, duration_of}
-use Rattle.fleet_base.specs.Rules.{IsFleetState}
+use Rattle.fleet_base.specs.State.{FleetState}
 use Rattle.fleet_base.specs.Paths.{travel}
 use Rattle.fleet_base.proofs.Walking.{travel_none}
 use Rattle.cert_tree.proofs.EdgeLaws.{visit}
 use Rattle.cert_tree.proofs.Walks.{travel_more}
-use Rattle.cert_check.specs.Rounds.{ticks_of, HasTicks}
+use Rattle.cert_check.specs.Rounds.{ticks_of}
 use Rattle.cert_check.specs.Sums.{first_of, HasRowSums, AreSums}
 use Rattle.cert_check.proofs.RoundLaws.{set_same, set_other}
 

@@ -1,10 +1,9 @@
 -- What a checker finds on its way through the nodes.
-use Rattle.std.proofs.Common.{ℕ, ◌≡◌, ◌+◌, ◌<◌, List, [], ◌∷◌, Some, None, Option, true, false, Bool, sym, ap, ◌∙◌, subst, arith, length, take, reverse, get_or}
+use Rattle.std.proofs.Common.{ℕ, ◌≡◌, ◌+◌, ◌<◌, List, [], ◌∷◌, Some, true, false, Bool, sym, ap, ◌∙◌, subst, arith, length, take, reverse, get_or}
 use native.Mathlib.Numerals.{unary_clauses}
 use Rattle.std.proofs.lemmas.List.{take_all}
 use Rattle.std.proofs.lemmas.Option.{slice_get-get_or}
 use Rattle.std.specs.Prelude.{Contains, All, ◌≤◌, slice_get, vec_len}
-use Rattle.fleet_base.specs.declared.order.Side.{Side}
 use Rattle.fleet_base.specs.Order.{Graph}
 use Rattle.fleet_base.specs.State.{FleetState}
 use Rattle.cert_tree.specs.declared.node.Node.{Node}

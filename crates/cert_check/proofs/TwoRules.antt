@@ -1,21 +1,17 @@
 -- A node of a spent tree is judged first groups apart, and then by its groups.
 use Rattle.std.proofs.Common.{ℕ, ◌≡◌, ◌<◌, ◌⊎◌, List, Some, None, Option, true, false, sym, subst, inl, inr, arith}
 use Rattle.std.specs.Prelude.{is_some}
-use Rattle.fleet_base.specs.declared.order.PairId.{PairId}
-use Rattle.fleet_base.specs.declared.order.Side.{Side}
 use Rattle.fleet_base.specs.Order.{Graph}
 use Rattle.fleet_base.specs.State.{FleetState}
-use Rattle.cert_tree.specs.declared.node.CertPath.{CertPath}
 use Rattle.cert_tree.specs.declared.node.Node.{Node}
-use Rattle.cert_tree.specs.declared.node.Node.TheVariants.{Branch, Force, Cyclic, Bound, OpenLeaf}
+use Rattle.cert_tree.specs.declared.node.Node.TheVariants.{Branch, OpenLeaf}
 use Rattle.cert_tree.specs.Decisions.{Decision}
-use Rattle.cert_tree.specs.GroupRules.{KeepsGroups}
 use Rattle.cert_tree.specs.Trees.{IsRight, IsSpent}
 use Rattle.cert_check.specs.declared.judge.Kind.{Kind}
 use Rattle.cert_check.specs.declared.judge.Kind.TheVariants as kind
 use Rattle.cert_check.specs.declared.verdict.NoWhy.{NoWhy}
-use Rattle.cert_check.specs.declared.verdict.NoWhy.TheVariants.{Shape, Pair, Cycle, Path, Sum, Leaf, Needed, Group, Count, Least, Order, Cost}
-use Rattle.cert_check.specs.Verdicts.{rank_of, IsFault, IsSpentFault}
+use Rattle.cert_check.specs.declared.verdict.NoWhy.TheVariants.{Pair, Leaf, Needed, Group}
+use Rattle.cert_check.specs.Verdicts.{rank_of, IsSpentFault}
 use Rattle.cert_check.specs.Judging.{IsFaultAlone, IsGroupFault, MeetsAlone, FailsAlone, MeetsAs, FailsAs, Judges, JudgesGroup}
 use Rattle.cert_check.proofs.OneVerdict.{right_excludes}
 

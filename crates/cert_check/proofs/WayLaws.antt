@@ -1,6 +1,6 @@
 -- Decisions are of pairs that differ, so there is room for them.
 use Rattle.std.proofs.Common.{ℕ, suc, ◌≡◌, ◌≢◌, ◌<◌, ◌⊎◌, List, [], ◌∷◌, Some, None, Option, true, false, Bool, cond, refl, sym, ap, ◌∙◌, subst, inl, inr, arith, length, map, reverse, eqb, set, get_or}
-use Rattle.std.specs.Prelude.{Contains, ◌≤◌, vec_len}
+use Rattle.std.specs.Prelude.{Contains, vec_len}
 use Rattle.std.specs.Vec.{vec_capacity}
 use Rattle.std.proofs.lemmas.Bool.{eq-eqb, cases_eq, ne_eqb}
 use Rattle.std.proofs.lemmas.List.{get_or-set_same, get_or-set_other}

@@ -1,5 +1,5 @@
 -- What the checkers work on stays as large as it was.
-use Rattle.std.proofs.Common.{ℕ, ◌≡◌, List, sym, ◌∙◌, subst}
+use Rattle.std.proofs.Common.{List, sym, ◌∙◌, subst}
 use Rattle.fleet_base.specs.declared.order.PairId.{PairId}
 use Rattle.fleet_base.specs.Order.{Graph}
 use Rattle.edge_groups.specs.Mates.{AreAllMates}

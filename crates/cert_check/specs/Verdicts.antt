@@ -1,6 +1,5 @@
 -- The verdict on a list of nodes: it is a tree of its kind, or its first node that fails, with the first word that fits there.
-use Rattle.std.specs.Prelude.{ℕ, ◌≡◌, ◌≢◌, ◌⊎◌, ◌+◌, ◌<◌, ◌≤◌, List, [], ◌∷◌, length, take, slice_get, Some, Contains, All}
-use Rattle.fleet_base.specs.declared.order.Side.TheVariants.{Lower, Higher}
+use Rattle.std.specs.Prelude.{ℕ, ◌≡◌, ◌≢◌, ◌⊎◌, ◌<◌, ◌≤◌, List, [], ◌∷◌, length, slice_get, Some, Contains, All}
 use Rattle.fleet_base.specs.Order.{Graph, IsCycle, other_side}
 use Rattle.fleet_base.specs.State.{FleetState}
 use Rattle.cert_tree.specs.declared.node.Node.{Node}
@@ -8,7 +7,7 @@ use Rattle.cert_tree.specs.declared.node.Node.TheVariants.{Branch, Force, Cyclic
 use Rattle.cert_tree.specs.Decisions.{Decision, order_on, IsFree}
 use Rattle.cert_tree.specs.Preorder.{ways_at, branches_in, left_in}
 use Rattle.cert_tree.specs.Paths.{ArePaths, total_length}
-use Rattle.cert_tree.specs.Trees.{Tree, nodes_of, branch_to, force_to, IsOptimalTree, IsSpentTree, IsNeeded, IsLeftOpen}
+use Rattle.cert_tree.specs.Trees.{Tree, nodes_of, force_to, IsOptimalTree, IsSpentTree, IsNeeded, IsLeftOpen}
 use Rattle.cert_tree.specs.GroupRules.{IsNewGroup, HasGroupLeft, IsGroupedTree}
 use Rattle.cert_check.specs.declared.verdict.NoWhy.{NoWhy}
 use Rattle.cert_check.specs.declared.verdict.NoWhy.TheVariants.{Shape, Pair, Cycle, Path, Sum, Leaf, Needed, Group, Count, Least, Order, Cost}

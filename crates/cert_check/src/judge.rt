@@ -56,7 +56,16 @@ pub(crate) fn judge(
     ensures work { KeepsWork work.old work.new }
 {
     let sides = &mut work.way.sides;
-    let word = judge_alone(graph, fleet, kind, cost, node, &work.sums, sides, &mut work.ticks);
+    let word = judge_alone(
+        graph,
+        fleet,
+        kind,
+        cost,
+        node,
+        &work.sums,
+        sides,
+        &mut work.ticks,
+    );
     match kind {
         Kind::Spent { .. } if word.is_none() => judge_group(graph, fleet, node, work),
         _ => word,

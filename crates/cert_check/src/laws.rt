@@ -1,5 +1,5 @@
 //! Laws of certificates. Each function does nothing: its contract is the law.
-ghost use Rattle.std.specs.Prelude.{◌≡◌, ◌<◌, ◌≤◌, true, ℕ, List, Option, Some, IsSome, length};
+ghost use Rattle.std.specs.Prelude.{◌≡◌, ◌+◌, ◌^◌, ◌<◌, ◌≤◌, true, ℕ, List, Option, Some, IsSome, length};
 ghost use Rattle.fleet_base.specs.declared.geometry.Visit.{Visit};
 ghost use Rattle.fleet_base.specs.declared.order.PairId.{PairId};
 ghost use Rattle.fleet_base.specs.declared.order.Side.{Side};
@@ -12,6 +12,8 @@ ghost use Rattle.cert_tree.specs.declared.node.Node.{Node};
 ghost use Rattle.cert_check.specs.declared.verdict.Verdict.{Verdict};
 ghost use Rattle.cert_tree.specs.Orders.{KeepsClosed, ObeysPairs};
 ghost use Rattle.fleet_base.specs.Paths.{path_length};
+ghost use Rattle.fleet_base.specs.Groups.{AreOpenGroups};
+ghost use Rattle.cert_tree.specs.GroupRules.{IsGroupedTree};
 ghost use Rattle.cert_tree.specs.Trees.{Tree, IsOptimalTree, IsSpentTree};
 ghost use Rattle.cert_check.specs.Verdicts.{OptimalVerdict, SpentVerdict};
 
@@ -54,4 +56,9 @@ pub fn optimal_verdicts_are_one()
 /// And one as a spent tree.
 pub fn spent_verdicts_are_one()
     ensures { (g : Graph) (x : FleetState) (cost least budget : ℕ) (nodes : List Node) (v w : Verdict) → SpentVerdict g x cost least budget nodes v → SpentVerdict g x cost least budget nodes w → v ≡ w }
+{}
+
+/// A spent tree with n open groups has fewer than 2^n - 1 branches.
+pub fn spent_trees_are_small()
+    ensures { (g : Graph) (x : FleetState) (groups : List ℕ) (cost least budget : ℕ) (tree : Tree) → AreOpenGroups g x groups → IsSpentTree g x cost least budget tree → IsGroupedTree g x tree → budget + 1 < 2 ^ length groups }
 {}

@@ -1,4 +1,4 @@
-use Rattle.std.proofs.Common.{List, Option, true, refl, sym, ap, arith, reverse, subst, ◌∙◌}
+use Rattle.std.proofs.Common.{List, Option, refl, sym, ap, arith, reverse, subst, ◌∙◌}
 use Rattle.std.specs.Vec.{vec_capacity}
 use Rattle.fleet_base.specs.declared.order.Side.{Side}
 use Rattle.cert_tree.specs.Preorder.{ways_after}

@@ -1,5 +1,5 @@
 -- The nodes so far are right, and the way that is kept is the next one.
-use Rattle.std.proofs.Common.{◌≡◌, [], ◌∷◌, take, reverse}
+use Rattle.std.proofs.Common.{[], ◌∷◌, take, reverse}
 use Rattle.cert_check.specs.Judging.{MeetsAs}
 use Rattle.cert_tree.specs.Preorder.{EachListed}
 use Rattle.cert_tree.specs.Preorder.{ways_at}

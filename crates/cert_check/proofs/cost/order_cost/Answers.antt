@@ -1,5 +1,4 @@
-use Rattle.std.proofs.Common.{ℕ, List, ◌≡◌, ◌<◌, Option, length, sym, ◌∙◌, ap, subst, arith}
-use Rattle.fleet_base.specs.declared.geometry.Visit.{Visit}
+use Rattle.std.proofs.Common.{List, Option, sym, ◌∙◌, ap, subst, arith}
 use Rattle.fleet_base.specs.declared.order.Side.{Side}
 use Rattle.fleet_base.specs.Order.{Graph, IsCyclic}
 use Rattle.fleet_base.specs.Schedule.{IsLeastSchedule, end_sum_of}

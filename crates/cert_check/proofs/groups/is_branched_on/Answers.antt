@@ -1,5 +1,5 @@
-use Rattle.std.proofs.Common.{ℕ, List, ◌≡◌, Some, length, take, reverse, refl, sym, ◌∙◌, ap, subst, arith}
-use Rattle.std.specs.Prelude.{Contains, slice_get, slice_index_or}
+use Rattle.std.proofs.Common.{List, ◌≡◌, length, reverse, refl, sym, ◌∙◌, subst}
+use Rattle.std.specs.Prelude.{Contains, slice_index_or}
 use Rattle.std.proofs.lemmas.Bool.{eqb-true, eq-eqb, false≢true}
 use Rattle.std.proofs.lemmas.List.{take_all}
 use Rattle.std.proofs.lemmas.Option.{slice_get-get_or}
@@ -9,7 +9,7 @@ use Rattle.fleet_base.proofs.Members.{in_none}
 use Rattle.cert_tree.specs.GroupRules.{branch_pairs}
 use Rattle.cert_check.specs.declared.way.Step.{Step}
 use Rattle.cert_check.specs.declared.way.Step.TheVariants.{Lower}
-use Rattle.cert_check.specs.Ways.{branch_of, way_of}
+use Rattle.cert_check.specs.Ways.{way_of}
 use Rattle.cert_check.proofs.GroupLaws.{joined_by, one_name, step_within, one_step_more, branched_there}
 use Rattle.cert_check.proofs.groups.is_branched_on.Goals.{in-Some+else-eq, in_default}
 use Rattle.cert_check.proofs.groups.is_branched_on.Goals as goal
@@ -29,9 +29,9 @@ loop-step-preserved c = λ g all.
     one_step_more g c.args.q.0 c.args.steps.now k s (slice_get-get_or c.args.steps.now k (Lower (record { 0 = 0 })) c.loop-step-test.true)
     (elim c.match-branched_on.branch [
       | in-Some+else-eq w ↦ λ p e j.
-        let one : w.in-Some.pair ≡ p = let a = w.in-Some.is in let b = c.branched_on.ensures in cc in
-        let same = one_name g c.args.q.0 w.in-Some.pair.0 c.group_of-group.result.0 w.group_of.result.0 (c.group_of-group.ensures g all) (w.group_of.ensures g all) (subst (λ (q : PairId). AreGrouped g c.args.q.0 q.0) (sym one) j) in
-        absurd (false≢true (sym w.if-eq.false ∙ w.eq.ensures ∙ eq-eqb w.group_of.result.0 c.group_of-group.result.0 (sym same)))
+          let one : w.in-Some.pair ≡ p = let a = w.in-Some.is in let b = c.branched_on.ensures in cc in
+          let same = one_name g c.args.q.0 w.in-Some.pair.0 c.group_of-group.result.0 w.group_of.result.0 (c.group_of-group.ensures g all) (w.group_of.ensures g all) (subst (λ (q : PairId). AreGrouped g c.args.q.0 q.0) (sym one) j) in
+          absurd (false≢true (sym w.if-eq.false ∙ w.eq.ensures ∙ eq-eqb w.group_of.result.0 c.group_of-group.result.0 (sym same)))
       | in_default w ↦ λ p e j. absurd (let a = w.in_default.is in let b = c.branched_on.ensures in cc)
     ]) (c.loop-step.invariant g all)
 

@@ -1,5 +1,5 @@
 -- No step so far branched on the group.
-use Rattle.std.proofs.Common.{ℕ, List, take, reverse}
+use Rattle.std.proofs.Common.{ℕ, take, reverse}
 use Rattle.std.specs.Prelude.{Contains}
 use Rattle.fleet_base.specs.Order.{Graph}
 use Rattle.fleet_base.specs.Groups.{AreGrouped}

@@ -21,9 +21,9 @@ loop-number-preserved c = λ r lt j. go r lt j (cases_eq r c.loop-number.number)
     here j = elim c.else-eq.branch [
       | else-eq-via-then-eq+else-not-is_open w ↦ sym w.is_open.ensures ∙ w.if-not-is_open.false
       | else-eq-via-else-eq w ↦
-        let g = c.args.graph.now in
-        let same = one_name g c.args.q.0 c.loop-number.number c.group_of-group.result.0 c.group_of.result.0 (c.group_of-group.ensures g c.requires.groups) (c.group_of.ensures g c.requires.groups) j in
-        absurd (false≢true (sym w.if-eq.false ∙ c.eq.ensures ∙ eq-eqb c.group_of.result.0 c.group_of-group.result.0 (sym same)))
+          let g = c.args.graph.now in
+          let same = one_name g c.args.q.0 c.loop-number.number c.group_of-group.result.0 c.group_of.result.0 (c.group_of-group.ensures g c.requires.groups) (c.group_of.ensures g c.requires.groups) j in
+          absurd (false≢true (sym w.if-eq.false ∙ c.eq.ensures ∙ eq-eqb c.group_of.result.0 c.group_of-group.result.0 (sym same)))
     ]
 
     go : (r : ℕ) → r < c.loop-number.number + 1 → AreGrouped c.args.graph.now c.args.q.0 r → (r ≡ c.loop-number.number) ⊎ (r ≡ c.loop-number.number → ⊥) → is_open c.args.graph.now c.args.fleet.now r ≡ true

@@ -1,4 +1,4 @@
-use Rattle.std.proofs.Common.{◌≡◌, ◌+◌, ◌<◌, length, sym, ◌∙◌, subst, arith}
+use Rattle.std.proofs.Common.{◌+◌, ◌<◌, length, sym, ◌∙◌, subst, arith}
 use Rattle.std.proofs.lemmas.Bool.{false≢true}
 use Rattle.cert_check.specs.Taken.{AreTaken}
 use Rattle.cert_check.proofs.GroupLaws.{name_within, all_off, none_taken, taken_same, taken_more}
@@ -20,11 +20,11 @@ loop-number-preserved c =
     let long = c.if-not-is_free.auto.taken ∙ c.loop-number.invariant.long in
     elim c.if-not-is_free.branch [
       | then-not-is_free w ↦
-        let name = w.group_of-group.ensures g c.requires.groups in
-        record {
-          taken = taken_more g x c.args.sides.now k w.group_of-group.result.0 c.loop-number.taken c.if-not-is_free.taken (λ f. false≢true (sym w.if-not-is_free.true ∙ c.is_free.ensures.1 f)) name (omega (arith, name_within g k w.group_of-group.result.0 inside name, c.loop-number.invariant.long, c.requires.taken)) w.taken-is c.loop-number.invariant.taken;
-          long = long;
-        }
+          let name = w.group_of-group.ensures g c.requires.groups in
+          record {
+            taken = taken_more g x c.args.sides.now k w.group_of-group.result.0 c.loop-number.taken c.if-not-is_free.taken (λ f. false≢true (sym w.if-not-is_free.true ∙ c.is_free.ensures.1 f)) name (omega (arith, name_within g k w.group_of-group.result.0 inside name, c.loop-number.invariant.long, c.requires.taken)) w.taken-is c.loop-number.invariant.taken;
+            long = long;
+          }
       | else-not-is_free w ↦ record {
         taken = subst (λ t. AreTaken g x c.args.sides.now (k + 1) t) (sym w.taken-is) (taken_same g x c.args.sides.now k c.loop-number.taken (c.is_free.ensures.0 w.if-not-is_free.false) c.loop-number.invariant.taken);
         long = long;

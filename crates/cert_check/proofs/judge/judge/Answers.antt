@@ -1,9 +1,7 @@
-use Rattle.std.proofs.Common.{List, [], Option, true, false, reverse, length, ap, sym, ◌≡◌, ◌∙◌, arith}
-use Rattle.std.specs.Prelude.{not}
+use Rattle.std.proofs.Common.{List, [], Option, reverse, length, ap, ◌∙◌}
 use Rattle.std.specs.Vec.{with_items}
 use Rattle.std.proofs.lemmas.List.{with_items_is}
 use Rattle.fleet_base.specs.declared.order.Side.{Side}
-use Rattle.cert_check.specs.declared.way.Way.{Way}
 use Rattle.cert_check.specs.Sides.{decided}
 use Rattle.cert_check.specs.Ways.{way_of}
 use Rattle.cert_check.proofs.RoundLaws.{has_ticks_of}

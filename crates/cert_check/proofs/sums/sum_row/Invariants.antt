@@ -1,5 +1,5 @@
 -- The sums of the visits so far are there, and nothing else is written.
-use Rattle.std.proofs.Common.{ℕ, ◌≡◌, ◌*◌, ◌≤◌}
+use Rattle.std.proofs.Common.{◌≡◌, ◌*◌, ◌≤◌}
 use Rattle.fleet_base.specs.declared.geometry.Visit.{Visit}
 use Rattle.fleet_base.specs.Paths.{travel}
 use Rattle.cert_check.specs.Rounds.{ticks_of, KeepsRows}

@@ -1,5 +1,5 @@
 -- The robots so far have their sums.
-use Rattle.std.proofs.Common.{ℕ, ◌≡◌, ◌*◌, ◌<◌, ◌≤◌}
+use Rattle.std.proofs.Common.{◌≡◌, ◌*◌, ◌<◌, ◌≤◌}
 use Rattle.fleet_base.specs.declared.geometry.Visit.{Visit}
 use Rattle.fleet_base.specs.Order.{IsVisit}
 use Rattle.fleet_base.specs.Paths.{travel}
