@@ -1,2 +1,3 @@
 pub mod Ready
 pub mod Sides
+pub mod Texts

@@ -1,4 +1,4 @@
-use Rattle.fleet_cli.proofs.Reasons.{read_plan_has_robots}
+use Rattle.plan_trials.proofs.Texts.{read_plan_has_robots}
 use Rattle.plan_trials.proofs.reading.raw_of.Goals as goal
 
 pub returns-in-Ok : goal.returns-in-Ok
