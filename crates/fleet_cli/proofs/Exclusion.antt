@@ -1,5 +1,5 @@
 -- A plan is sound, or there is a refusal.
-use Rattle.std.proofs.Common.{ℕ, ◌≡◌, drop, List, [], ◌∷◌, ◌++◌, sym, ap, ◌∙◌, subst, inl, inr, arith, length, take, refl, Some}
+use Rattle.std.proofs.Common.{ℕ, Bool, ◌≡◌, drop, List, [], ◌∷◌, ◌++◌, sym, ap, ◌∙◌, subst, inl, inr, arith, length, take, refl, Some}
 use Rattle.fleet_base.specs.declared.geometry.Cell.{Cell}
 use Rattle.fleet_base.specs.declared.geometry.PlannedVisit.{PlannedVisit}
 use Rattle.fleet_base.specs.declared.status.Status.{Status}
@@ -19,10 +19,12 @@ use Rattle.plan_check.proofs.Accepted.{accepted_faultless}
 use Rattle.fleet_cli.specs.declared.fault.Paper.TheVariants as paper
 use Rattle.fleet_cli.specs.declared.fault.Fault.{Fault}
 use Rattle.fleet_cli.specs.declared.fault.Fault.TheVariants.{Usage, Long, Unread, Map, Plan, Unsound, Pairs}
-use Rattle.fleet_cli.specs.declared.words.Command.{Command}
-use Rattle.fleet_cli.specs.declared.words.Command.TheVariants.{Check, Run}
+use Rattle.command_words.specs.declared.command.Command.{Command}
+use Rattle.command_words.specs.declared.command.Command.TheVariants.{Check, Run}
 use Rattle.std.specs.Prelude.{codes}
-use Rattle.fleet_cli.specs.Words.{IsCommand}
+use Rattle.command_words.specs.Commands.{IsCommand, AreOne}
+use Rattle.command_words.proofs.Deciding.{one_command}
+use Rattle.fleet_cli.specs.Words.{IsCommandOn, NamesPapers, Checks, RunsWith}
 use Rattle.fleet_cli.specs.Papers.{Files, IsPaper, IsLong, HasMap, HasPlan, IsSoundPaper}
 use Rattle.fleet_cli.specs.Causes.{IsRefused, IsCause}
 use Rattle.fleet_cli.specs.Due.{IsAsked, IsDue}
@@ -33,7 +35,7 @@ use Rattle.fleet_cli.specs.Runs.{sent_on, RunEnds}
 use Rattle.fleet_cli.specs.Lines.{fault_line, status_of}
 use Rattle.fleet_cli.specs.Tasks.{EndsWith}
 use Rattle.fleet_serve.specs.Told.{Sends}
-use Rattle.fleet_cli.specs.Ends.{Call, Runs, IsLine, SaysLine, LineEnds, IsRunCall, EndsAs, MayOpen, IsSmooth}
+use Rattle.fleet_cli.specs.Ends.{Call, IsLine, SaysLine, LineEnds, IsRunCall, EndsAs, MayOpen, IsSmooth}
 
 -- a file that is told has one content
 same_bytes : (files : Files) (name bytes bytes2 : List ℕ) → files.tells → IsPaper files name bytes → IsPaper files name bytes2 → bytes ≡ bytes2
@@ -82,23 +84,23 @@ papers_are : (p q : Papers) → p.map ≡ q.map → p.plan ≡ q.plan → p ≡ 
 papers_are p q map plan = ap (λ (m : List ℕ). let r : Papers = record { map = m; plan = p.plan } in r) map ∙ ap (λ (t : List ℕ). let r : Papers = record { map = q.map; plan = t } in r) plan
 
 -- words name one map and one plan
-same_names : (words : List (List ℕ)) (a b : Command) (m p m2 p2 : List ℕ) → IsCommand words a m p → IsCommand words b m2 p2 → (m ≡ m2) × (p ≡ p2)
-same_names words Check Check m p m2 p2 x y =
-    let e = heads_are (codes "check") (codes "check") (m ∷ p ∷ []) (m2 ∷ p2 ∷ []) (sym x.words_are ∙ y.words_are) in
-    let f = heads_are m m2 (p ∷ []) (p2 ∷ []) e.1 in
-    (f.0, (heads_are p p2 [] [] f.1).0)
-same_names words (Run j) (Run k) m p m2 p2 x y =
-    let e = heads_are (codes "run") (codes "run") (m ∷ p ∷ j.now ∷ []) (m2 ∷ p2 ∷ k.now ∷ []) (sym x.words_are ∙ y.words_are) in
-    let f = heads_are m m2 (p ∷ j.now ∷ []) (p2 ∷ k.now ∷ []) e.1 in
-    (f.0, (heads_are p p2 (j.now ∷ []) (k.now ∷ []) f.1).0)
-same_names words Check (Run k) m p m2 p2 x y = absurd (omega (arith, ap (λ (ws : List (List ℕ)). length ws) (sym x.words_are ∙ y.words_are)))
-same_names words (Run j) Check m p m2 p2 x y = absurd (omega (arith, ap (λ (ws : List (List ℕ)). length ws) (sym x.words_are ∙ y.words_are)))
+same_names : (words : List (List ℕ)) (a b : Command) (m p m2 p2 : List ℕ) → IsCommandOn words a m p → IsCommandOn words b m2 p2 → (m ≡ m2) × (p ≡ p2)
+same_names words a b m p m2 p2 x y = named a b x.papers_are y.papers_are (one_command words a b x.words_are y.words_are)
+  where
+    named : (a b : Command) → NamesPapers a m p → NamesPapers b m2 p2 → AreOne a b → (m ≡ m2) × (p ≡ p2)
+    named (Check k l) (Check k2 l2) x y e = (x.0 ∙ e.0 ∙ sym y.0, x.1 ∙ e.1 ∙ sym y.1)
+    named (Run k l j n q) (Run k2 l2 j2 n2 q2) x y e = (x.0 ∙ e.0 ∙ sym y.0, x.1 ∙ e.1 ∙ sym y.1)
+    named (Check k l) (Run k2 l2 j2 n2 q2) x y e = absurd e
+    named (Run k l j n q) (Check k2 l2) x y e = absurd e
 
 -- a check is no run
-pub check_is_no_run : (files : Files) (words : List (List ℕ)) (papers others : Papers) (rs qs : List (List PlannedVisit)) (other : Command) → Runs other → IsAsked files words Check papers rs → IsAsked files words other others qs → ⊥
-check_is_no_run files words papers others rs qs Check runs a b = runs
-check_is_no_run files words papers others rs qs (Run journal) runs a b =
-    absurd (omega (arith, ap (λ (ws : List (List ℕ)). length ws) (sym a.words_are.words_are ∙ b.words_are.words_are)))
+pub check_is_no_run : (files : Files) (words : List (List ℕ)) (papers others : Papers) (rs qs : List (List PlannedVisit)) (one other : Command) (journal : List ℕ) (budget : ℕ) (quiet : Bool) → Checks one → RunsWith other journal budget quiet → IsAsked files words one papers rs → IsAsked files words other others qs → ⊥
+check_is_no_run files words papers others rs qs one other journal budget quiet checks runs a b = differ one other checks runs (one_command words one other a.words_are.words_are b.words_are.words_are)
+  where
+    differ : (one other : Command) → Checks one → RunsWith other journal budget quiet → AreOne one other → ⊥
+    differ (Check k l) (Check k2 l2) checks runs e = runs
+    differ (Check k l) (Run k2 l2 j2 n2 q2) checks runs e = e
+    differ (Run k l j n q) other checks runs e = checks
 
 -- words ask for one plan, and its files have one content
 same_asked : (files : Files) (words : List (List ℕ)) (a b : Command) (papers others : Papers) (rs qs : List (List PlannedVisit)) → files.tells → IsAsked files words a papers rs → IsAsked files words b others qs → (papers ≡ others) × (rs ≡ qs)
@@ -112,14 +114,14 @@ same_asked files words a b papers others rs qs t x y =
     (papers_are papers others (s.map_is ∙ maps ∙ sym r.map_is) (s.plan_is ∙ texts ∙ sym r.plan_is), s.has.visits ∙ ap (λ (ps : List (List Cell)). visits_of ps) plans ∙ sym r.has.visits)
 
 asked_or_named : (files : Files) (failed : Type 0) (words : List (List ℕ)) (command : Command) (papers : Papers) (routes : List (List PlannedVisit)) (fault : Fault) → files.tells → IsAsked files words command papers routes
-    → (other : Command) × (map_name plan_name : List ℕ) × IsCommand words other map_name plan_name × IsRefused files failed map_name plan_name fault → failed
+    → (other : Command) × (map_name plan_name : List ℕ) × IsCommandOn words other map_name plan_name × IsRefused files failed map_name plan_name fault → failed
 asked_or_named files failed words command papers routes fault t a (other, map_name, plan_name, named, refused) =
     let names = same_names words command other a.map_name a.plan_name map_name plan_name a.words_are named in
     one_or_other files failed map_name plan_name papers routes fault t
     (subst (λ (m : List ℕ). IsSoundPaper files m plan_name papers routes) names.0 (subst (λ (p : List ℕ). IsSoundPaper files a.map_name p papers routes) names.1 a.sound)) refused
 
 pub sound_or_refused : (files : Files) (failed : Type 0) (words : List (List ℕ)) (command : Command) (papers : Papers) (routes : List (List PlannedVisit)) (fault : Fault) → files.tells → IsAsked files words command papers routes → IsCause files failed words fault → failed
-sound_or_refused files failed words command papers routes Usage t a c = absurd (c command a.map_name a.plan_name a.words_are)
+sound_or_refused files failed words command papers routes Usage t a c = absurd (c command a.words_are.words_are)
 sound_or_refused files failed words command papers routes (Long which n) t a c = asked_or_named files failed words command papers routes (Long which n) t a c
 sound_or_refused files failed words command papers routes (Unread which) t a c = asked_or_named files failed words command papers routes (Unread which) t a c
 sound_or_refused files failed words command papers routes (Map f) t a c = asked_or_named files failed words command papers routes (Map f) t a c
@@ -157,16 +159,16 @@ run_smooth : (call : Call) (command : Command) (papers : Papers) (routes : List 
 run_smooth call command papers routes Done t a may taken sent r e = tt
 run_smooth call command papers routes status.Usage t a may taken sent r e = absurd e
 run_smooth call command papers routes Input t a may taken sent r e = absurd e
-run_smooth call Check papers routes Journal t a may taken sent r e = absurd (check_is_no_run call.files call.words papers r.papers routes r.routes r.command r.runs a r.asked)
-run_smooth call (Run journal) papers routes Journal t a may taken sent r e =
-    let same = same_asked call.files call.words (Run journal) r.command papers r.papers routes r.routes t a r.asked in
+run_smooth call (Check m p) papers routes Journal t a may taken sent r e = absurd (check_is_no_run call.files call.words papers r.papers routes r.routes (Check m p) r.command r.journal r.budget r.quiet tt r.runs a r.asked)
+run_smooth call (Run m p j n q) papers routes Journal t a may taken sent r e =
+    let same = same_asked call.files call.words (Run m p j n q) r.command papers r.papers routes r.routes t a r.asked in
     absurd (not_refused r.routes (routes_are call.files r.asked.map_name r.asked.plan_name r.papers r.routes r.asked.sound) r.papers call.talk.line.old.seen e.1.1.image e.1.0 (e.1.1.means may.0) e.1.1.text_is may.1.0
     (subst (λ (ps : Papers). StandsFor r.routes ps call.talk.line.old.seen may.1.0) same.0 (subst (λ (rs : List (List PlannedVisit)). StandsFor rs papers call.talk.line.old.seen may.1.0) same.1 may.1.1)))
 run_smooth call command papers routes ReadFault t a may taken sent r e = absurd (taken e.0)
 run_smooth call command papers routes StationFault t a may taken sent r e = absurd (sent e.0)
 run_smooth call command papers routes Memory t a may taken sent r e = tt
-run_smooth call Check papers routes Limit t a may taken sent r e = absurd (check_is_no_run call.files call.words papers r.papers routes r.routes r.command r.runs a r.asked)
-run_smooth call (Run journal) papers routes Limit t a may taken sent r e = tt
+run_smooth call (Check m p) papers routes Limit t a may taken sent r e = absurd (check_is_no_run call.files call.words papers r.papers routes r.routes (Check m p) r.command r.journal r.budget r.quiet tt r.runs a r.asked)
+run_smooth call (Run m p j n q) papers routes Limit t a may taken sent r e = tt
 
 -- where a command is asked of a sound plan and nothing fails, the call ends well, at the limit of input, or for want of memory
 pub ends_smooth : (call : Call) (command : Command) (papers : Papers) (routes : List (List PlannedVisit)) (end : Status) → call.files.tells → IsAsked call.files call.words command papers routes → MayOpen command routes papers call.talk.line.tells call.talk.line.old.seen

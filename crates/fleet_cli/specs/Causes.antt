@@ -13,8 +13,9 @@ use Rattle.fleet_cli.specs.declared.fault.Paper.{Paper}
 use Rattle.fleet_cli.specs.declared.fault.Paper.TheVariants as paper
 use Rattle.fleet_cli.specs.declared.fault.Fault.{Fault}
 use Rattle.fleet_cli.specs.declared.fault.Fault.TheVariants.{Usage, Long, Unread, Map, Plan, Unsound, Pairs}
-use Rattle.fleet_cli.specs.declared.words.Command.{Command}
-use Rattle.fleet_cli.specs.Words.{IsCommand, IsUsage}
+use Rattle.command_words.specs.declared.command.Command.{Command}
+use Rattle.fleet_cli.specs.Words.{IsCommandOn}
+use Rattle.command_words.specs.Commands.{IsUsage}
 use Rattle.fleet_cli.specs.Papers.{Files, IsPaper, IsLong, HasMap, HasPlan, HasRoutes}
 
 -- what was taken before a file is asked for: nothing before the map, the map before the plan
@@ -41,4 +42,4 @@ IsRefused files failed map_name plan_name (Pairs n) = (routes : List (List Plann
 -- these words call for this refusal
 abbrev pub IsCause : Files → Type 0 → List (List ℕ) → Fault → Type 0
 IsCause files failed words Usage = IsUsage words
-IsCause files failed words fault = (command : Command) × (map_name plan_name : List ℕ) × IsCommand words command map_name plan_name × IsRefused files failed map_name plan_name fault
+IsCause files failed words fault = (command : Command) × (map_name plan_name : List ℕ) × IsCommandOn words command map_name plan_name × IsRefused files failed map_name plan_name fault

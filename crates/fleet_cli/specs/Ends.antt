@@ -1,5 +1,5 @@
 -- How a call of the program ends, by its status, and what it has sent.
-use Rattle.std.specs.Prelude.{ℕ, ◌⊎◌, List, [], ◌∷◌, ◌++◌}
+use Rattle.std.specs.Prelude.{ℕ, ◌⊎◌, Bool, List, [], ◌∷◌, ◌++◌}
 use Rattle.fleet_base.specs.declared.geometry.PlannedVisit.{PlannedVisit}
 use Rattle.fleet_base.specs.declared.status.Status.{Status}
 use Rattle.fleet_base.specs.declared.status.Status.TheVariants.{Done, Usage, Input, Journal, ReadFault, StationFault, Memory, Limit}
@@ -8,9 +8,10 @@ use Rattle.fleet_recovery.specs.Papers.{Papers}
 use Rattle.fleet_recovery.specs.Image.{StandsFor}
 use Rattle.station_api.specs.Scene.{Scene}
 use Rattle.fleet_serve.specs.Told.{Sends, SendsPart, Takes}
-use Rattle.fleet_cli.specs.declared.words.Command.{Command}
-use Rattle.fleet_cli.specs.declared.words.Command.TheVariants.{Check, Run}
+use Rattle.command_words.specs.declared.command.Command.{Command}
+use Rattle.command_words.specs.declared.command.Command.TheVariants.{Check, Run}
 use Rattle.fleet_cli.specs.Papers.{Files}
+use Rattle.fleet_cli.specs.Words.{RunsWith}
 use Rattle.fleet_cli.specs.Due.{IsAsked, IsDue}
 use Rattle.fleet_cli.specs.Runs.{Talk, sent_on, SidesStay, RunEnds, IsRunSession}
 
@@ -41,21 +42,19 @@ LineEnds call StationFault = call.talk.line.failed × ((end : Status) × (line :
 LineEnds call Memory = Sends (sent_on call.talk.line) []
 LineEnds call Limit = ⊥
 
--- the command is a run
-abbrev pub Runs : Command → Type 0
-Runs Check = ⊥
-Runs (Run journal) = Unit {0}
-
 -- a call that has one line to say takes no input, and the sides stay as they are
 pub record IsLineCall (call : Call) (end : Status) : Type 0 where
   pub takes : Takes call.talk.input []
   pub stay : SidesStay call.talk.line
   pub ends : LineEnds call end
 
--- A call that runs a sound plan: how it ends, and that it is a session.
+-- A call that runs a sound plan, with the journal, the budget and the flag that the words give: how it ends, and that it is a session.
 pub record IsRunCall (call : Call) (end : Status) : Type 0 where
   pub command : Command
-  pub runs : Runs command
+  pub journal : List ℕ
+  pub budget : ℕ
+  pub quiet : Bool
+  pub runs : RunsWith command journal budget quiet
   pub papers : Papers
   pub routes : List (List PlannedVisit)
   pub asked : IsAsked call.files call.words command papers routes
@@ -75,10 +74,10 @@ IsSmooth command Journal = ⊥
 IsSmooth command ReadFault = ⊥
 IsSmooth command StationFault = ⊥
 IsSmooth command Memory = Unit {0}
-IsSmooth Check Limit = ⊥
-IsSmooth (Run journal) Limit = Unit {0}
+IsSmooth (Check m p) Limit = ⊥
+IsSmooth (Run m p journal budget quiet) Limit = Unit {0}
 
 -- the sides are told and stand for a state, if the command is a run
 abbrev pub MayOpen : Command → List (List PlannedVisit) → Papers → Type 0 → Scene → Type 0
-MayOpen Check routes papers tells scene = Unit {0}
-MayOpen (Run journal) routes papers tells scene = tells × ((x : FleetState) × StandsFor routes papers scene x)
+MayOpen (Check m p) routes papers tells scene = Unit {0}
+MayOpen (Run m p journal budget quiet) routes papers tells scene = tells × ((x : FleetState) × StandsFor routes papers scene x)

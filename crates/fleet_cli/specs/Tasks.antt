@@ -9,9 +9,9 @@ use Rattle.fleet_cli.specs.declared.fault.Refusal.TheVariants.{Fault, Memory}
 use Rattle.fleet_cli.specs.declared.papers.Papers.{Papers as SoundPapers}
 use Rattle.fleet_cli.specs.declared.task.Task.{Task}
 use Rattle.fleet_cli.specs.declared.task.Task.TheVariants.{Say, Serve}
-use Rattle.fleet_cli.specs.declared.words.Command.{Command}
-use Rattle.fleet_cli.specs.declared.words.Command.TheVariants.{Run}
+use Rattle.command_words.specs.declared.command.Command.{Command}
 use Rattle.fleet_cli.specs.Papers.{Files, bytes_of}
+use Rattle.fleet_cli.specs.Words.{RunsWith}
 use Rattle.fleet_cli.specs.Causes.{IsCause}
 use Rattle.fleet_cli.specs.Due.{IsAsked, IsDue}
 
@@ -27,7 +27,7 @@ IsCalledFor files failed words Memory = Unit {0}
 -- the line that is due is to be said, or the plan is to be run
 abbrev pub IsTask : Files → Type 0 → List (List ℕ) → Task → Type 0
 IsTask files failed words (Say reply) = (line : List ℕ) × IsDue files failed words reply.status line × (reply.text ≡ line ++ 10 ∷ [])
-IsTask files failed words (Serve papers journal) = AsksFor files words (Run journal) papers
+IsTask files failed words (Serve papers journal budget quiet) = (command : Command) × RunsWith command journal.now budget quiet × AsksFor files words command papers
 
 -- a text was sent whole, and the status is this one; or the station failed
 abbrev pub EndsWith : Status → List ℕ → Told → Type 0 → Status → Type 0

@@ -1,31 +1,30 @@
--- The words of the command line, without the program's own name.
-use Rattle.std.specs.Prelude.{ℕ, ◌≡◌, ◌≢◌, List, [], ◌∷◌, codes}
-use Rattle.fleet_cli.specs.declared.words.Command.{Command}
-use Rattle.fleet_cli.specs.declared.words.Command.TheVariants.{Check, Run}
+-- The command that words ask for on a map and a plan.
+use Rattle.std.specs.Prelude.{ℕ, ◌≡◌, Bool, List}
+use Rattle.command_words.specs.declared.command.Command.{Command}
+use Rattle.command_words.specs.declared.command.Command.TheVariants.{Check, Run}
+use Rattle.command_words.specs.Commands.{IsCommand}
 
--- a name is not empty, and does not begin with `-`
-abbrev pub IsName : List ℕ → Type 0
-IsName [] = ⊥
-IsName (c ∷ cs) = c ≢ 45
+-- the map and the plan that a command names
+abbrev pub NamesPapers : Command → List ℕ → List ℕ → Type 0
+NamesPapers (Check m p) map_name plan_name = (map_name ≡ m.now) × (plan_name ≡ p.now)
+NamesPapers (Run m p journal budget quiet) map_name plan_name = (map_name ≡ m.now) × (plan_name ≡ p.now)
 
--- the words are `check` and the names of a map and of a plan
-pub record IsCheck (words : List (List ℕ)) (map_name plan_name : List ℕ) : Type 0 where
-  pub words_are : words ≡ codes "check" ∷ map_name ∷ plan_name ∷ []
-  pub map_is : IsName map_name
-  pub plan_is : IsName plan_name
+-- the words are those of this command, on this map and this plan
+pub record IsCommandOn (words : List (List ℕ)) (command : Command) (map_name plan_name : List ℕ) : Type 0 where
+  pub words_are : IsCommand words command
+  pub papers_are : NamesPapers command map_name plan_name
 
--- the words are `run` and the names of a map, of a plan and of a journal
-pub record IsRun (words : List (List ℕ)) (map_name plan_name journal : List ℕ) : Type 0 where
-  pub words_are : words ≡ codes "run" ∷ map_name ∷ plan_name ∷ journal ∷ []
-  pub map_is : IsName map_name
-  pub plan_is : IsName plan_name
-  pub journal_is : IsName journal
+-- the command is a check
+abbrev pub Checks : Command → Type 0
+Checks (Check m p) = Unit {0}
+Checks (Run m p journal budget quiet) = ⊥
 
--- the words are those of a command on this map and this plan
-abbrev pub IsCommand : List (List ℕ) → Command → List ℕ → List ℕ → Type 0
-IsCommand words Check map_name plan_name = IsCheck words map_name plan_name
-IsCommand words (Run journal) map_name plan_name = IsRun words map_name plan_name journal.now
+-- the command is a run
+abbrev pub Runs : Command → Type 0
+Runs (Check m p) = ⊥
+Runs (Run m p journal budget quiet) = Unit {0}
 
--- the words are those of no command
-abbrev pub IsUsage : List (List ℕ) → Type 0
-IsUsage words = (command : Command) (map_name plan_name : List ℕ) → IsCommand words command map_name plan_name → ⊥
+-- the command is a run with this journal, this budget and this flag
+abbrev pub RunsWith : Command → List ℕ → ℕ → Bool → Type 0
+RunsWith (Check m p) name n flag = ⊥
+RunsWith (Run m p journal budget quiet) name n flag = (journal.now ≡ name) × (budget ≡ n) × (quiet ≡ flag)

@@ -2,7 +2,7 @@
 ghost use Rattle.std.specs.Prelude.{ℕ, List, [], Option, ◌≡◌, ◌⊎◌, ◌<◌, ◌^◌, ◌∷◌, Contains};
 ghost use Rattle.fleet_base.specs.declared.geometry.PlannedVisit.{PlannedVisit};
 ghost use Rattle.fleet_cli.specs.declared.fault.Fault.{Fault};
-ghost use Rattle.fleet_cli.specs.declared.words.Command.{Command};
+ghost use Rattle.command_words.specs.declared.command.Command.{Command};
 ghost use Rattle.fleet_cli.specs.Causes.{IsCause};
 ghost use Rattle.fleet_cli.specs.Due.{IsAsked};
 ghost use Rattle.fleet_base.specs.Plan.{AreRoutes};

@@ -10,7 +10,6 @@ mod saying;
 mod session;
 mod task;
 mod top;
-mod words;
 mod writing;
 
 pub use top::fleet_main;

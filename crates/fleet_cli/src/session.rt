@@ -27,13 +27,8 @@ use plan_graph::PlanGraph;
 use station_api::{AttachFault, Source, Station};
 use std::alloc::Global;
 
-/// What a run is set to.
-const SETTINGS: Settings = Settings {
-    budget: 128,
-    quiet: false,
-    side_limit: 1 << 30,
-    input_limit: 1 << 32,
-};
+/// The greatest length of a side of a run's journal.
+const SIDE_LIMIT: u64 = 1 << 30;
 
 /// What a run keeps while it serves.
 #[derive(Drop)]
@@ -50,6 +45,8 @@ pub fn run<S: Source, T: Station>(
     alloc: Global,
     papers: &Papers,
     journal: &str,
+    budget: u64,
+    quiet: bool,
     source: &mut S,
     station: &mut T,
 ) -> Status
@@ -91,6 +88,12 @@ pub fn run<S: Source, T: Station>(
         map: &papers.map,
         plan: &papers.text,
     };
+    let settings = Settings {
+        budget,
+        quiet,
+        side_limit: SIDE_LIMIT,
+        input_limit: 1 << 32,
+    };
     match serve(
         alloc,
         &graph,
@@ -98,7 +101,7 @@ pub fn run<S: Source, T: Station>(
         &mut fleet,
         &mut journal,
         &mut kit,
-        &SETTINGS,
+        &settings,
         &texts,
         source,
         station,
@@ -172,7 +175,7 @@ fn restore<T: Station>(
         &papers.pairs,
         &papers.map,
         &papers.text,
-        SETTINGS.side_limit,
+        SIDE_LIMIT,
     )?;
     Ok(Session {
         graph,

@@ -4,12 +4,13 @@ ghost use Rattle.station_api.specs.Causes.{Counted, Rose};
 ghost use Rattle.fleet_cli.specs.Papers.{Files};
 ghost use Rattle.fleet_cli.specs.Tasks.{AsksFor, IsCalledFor, IsTask};
 ghost use Rattle.fleet_cli.specs.Lines.{fields, fault_line};
+ghost use Rattle.fleet_cli.specs.Words.{NamesPapers};
 
 use crate::fault::{Fault, Refusal};
 use crate::lines::push_fault;
 use crate::papers::{Papers, Sound, read_papers, sound_of};
-use crate::words::{Command, read_words};
 use crate::writing::push_fields;
+use command_words::{Command, WordsError, read_words};
 use fleet_base::{Memory, Status, Text, push_bytes};
 use station_api::Shelf;
 use std::alloc::Global;
@@ -26,8 +27,13 @@ pub struct Reply {
 pub enum Task<'w> {
     /// A line is to be said.
     Say(Reply),
-    /// A plan is to be run, with the journal of this name.
-    Serve { papers: Papers, journal: &'w str },
+    /// A plan is to be run, with the journal of this name, this budget and this flag.
+    Serve {
+        papers: Papers,
+        journal: &'w str,
+        budget: u64,
+        quiet: bool,
+    },
 }
 
 /// What is to be done for these words.
@@ -40,8 +46,21 @@ pub fn task_of<'w, H: Shelf>(
     ensures counted { Counted (H.counts shelf.old) (H.counts shelf.new) }
 {
     match papers_for(alloc, words, shelf) {
-        Ok((Command::Run { journal }, papers)) => Ok(Task::Serve { papers, journal }),
-        Ok((Command::Check, papers)) => {
+        Ok((
+            Command::Run {
+                journal,
+                budget,
+                quiet,
+                ..
+            },
+            papers,
+        )) => Ok(Task::Serve {
+            papers,
+            journal,
+            budget,
+            quiet,
+        }),
+        Ok((Command::Check { .. }, papers)) => {
             let text = sound_text(alloc, sound_of(&papers))?;
             Ok(Task::Say(Reply {
                 status: Status::Done,
@@ -69,14 +88,25 @@ fn papers_for<'w, H: Shelf>(
     ensures refused { IfErr result (IsCalledFor (record { tells = H.tells; file = H.file shelf.old }) (Rose (H.counts shelf.old).faults (H.counts shelf.new).faults) (map (λ w. string_bytes w) words.now)) }
     ensures counted { Counted (H.counts shelf.old) (H.counts shelf.new) }
 {
-    match read_words(words) {
-        Some((command, map_name, plan_name)) => {
+    match read_words(alloc, words) {
+        Ok(command) => {
+            let (map_name, plan_name) = papers_named(&command);
             match read_papers(alloc, shelf, map_name, plan_name) {
                 Ok(papers) => Ok((command, papers)),
                 Err(refusal) => Err(refusal),
             }
         }
-        None => Err(Refusal::Fault(Fault::Usage)),
+        Err(WordsError::Usage) => Err(Refusal::Fault(Fault::Usage)),
+        Err(WordsError::Memory) => Err(Refusal::Memory),
+    }
+}
+
+/// The names of the map and of the plan.
+fn papers_named<'w>(command: &Command<'w>) -> (&'w str, &'w str)
+    ensures { NamesPapers command.now result.0.now result.1.now }
+{
+    match *command {
+        Command::Check { map, plan } | Command::Run { map, plan, .. } => (map, plan),
     }
 }
 

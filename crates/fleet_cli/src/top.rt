@@ -4,7 +4,7 @@ ghost use Rattle.fleet_base.specs.declared.geometry.PlannedVisit.{PlannedVisit};
 ghost use Rattle.station_api.specs.Causes.{Counted, Rose};
 ghost use Rattle.fleet_recovery.specs.Papers.{Papers};
 ghost use Rattle.fleet_serve.specs.Told.{Told};
-ghost use Rattle.fleet_cli.specs.declared.words.Command.{Command};
+ghost use Rattle.command_words.specs.declared.command.Command.{Command};
 ghost use Rattle.fleet_cli.specs.Due.{IsAsked};
 ghost use Rattle.fleet_cli.specs.Ends.{Call, EndsAs, MayOpen, IsSmooth};
 
@@ -16,7 +16,7 @@ use station_api::{Shelf, Source, Station};
 use std::alloc::Global;
 
 /// All that the program does. `check MAP PLAN` sends `sound ROBOTS VISITS PAIRS` if the plan can be carried out on the map.
-/// `run MAP PLAN JOURNAL` carries it out: it opens the journal, or makes it, sends `ready N` and every release that has not
+/// `run MAP PLAN JOURNAL [--budget N] [--quiet]`, with N from 0 to 4,096 and usually 128, carries it out: it opens the journal, or makes it, sends `ready N` and every release that has not
 /// arrived, and answers each report line. A plan that cannot be carried out has the line of its first fault, a journal that is
 /// not one of this plan the line that says so, and other words have `fault usage`. The words do not contain the program's own
 /// name. The answer is how the program ends.
@@ -54,7 +54,12 @@ pub fn fleet_main<H: Shelf, S: Source, T: Station>(
 {
     match task_of(alloc, words, shelf) {
         Ok(Task::Say(reply)) => say(station, reply.text.as_slice(), reply.status),
-        Ok(Task::Serve { papers, journal }) => run(alloc, &papers, journal, source, station),
+        Ok(Task::Serve {
+            papers,
+            journal,
+            budget,
+            quiet,
+        }) => run(alloc, &papers, journal, budget, quiet, source, station),
         Err(_) => Status::Memory,
     }
 }

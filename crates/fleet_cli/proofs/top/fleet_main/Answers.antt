@@ -1,7 +1,6 @@
 use Rattle.std.proofs.Common.{◌∙◌, inl, inr, refl, map}
 use Rattle.std.specs.Prelude.{string_bytes}
 use Rattle.station_api.specs.Causes.{Rose}
-use Rattle.fleet_cli.specs.declared.words.Command.TheVariants.{Run}
 use Rattle.fleet_cli.specs.Papers.{bytes_of}
 use Rattle.fleet_cli.specs.Ends.{Call}
 use Rattle.fleet_cli.proofs.Exclusion.{say_ends, ends_smooth, routes_are}
@@ -41,17 +40,20 @@ returns-in-Ok-Say-clause-complete g c command papers routes tells asked may fine
 pub run-requires-clause-sound : goal.run-requires-clause-sound
 run-requires-clause-sound g c =
     let task = rw c.in-Ok-Serve.field-0-is at c.in-Ok-Serve.ensures.task in
-    routes_are _ task.0.map_name task.0.plan_name _ _ task.0.sound
+    routes_are _ task.2.0.map_name task.2.0.plan_name _ _ task.2.0.sound
 
 pub returns-in-Ok-Serve-clause-ends : goal.returns-in-Ok-Serve-clause-ends
 returns-in-Ok-Serve-clause-ends g c =
     let task = rw c.in-Ok-Serve.field-0-is at c.in-Ok-Serve.ensures.task in
     inr (record {
-      command = Run c.in-Ok-Serve.journal;
-      runs = tt;
+      command = task.0;
+      journal = c.in-Ok-Serve.journal.now;
+      budget = c.in-Ok-Serve.budget;
+      quiet = c.in-Ok-Serve.quiet;
+      runs = task.1;
       papers = bytes_of c.in-Ok-Serve.papers;
       routes = c.in-Ok-Serve.papers.plan;
-      asked = task.0;
+      asked = task.2.0;
       ends = c.run.ensures.ends;
       session = c.run.ensures.session;
     })

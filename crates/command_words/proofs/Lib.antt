@@ -1,0 +1,9 @@
+pub mod Apps
+pub mod Deciding
+pub mod Finding
+pub mod Known
+pub mod Matching
+pub mod Rows
+pub mod Steps
+pub mod Values
+pub mod Whole

@@ -1,0 +1,13 @@
+use Rattle.std.proofs.Common.{rules, ◌≡◌, ◌∙◌, ap, ap₂, refl, true, codes}
+use Rattle.clap.specs.Walk.{rule_of}
+use Rattle.clap.specs.Simple.{App, app_of, app_of_fields, new_rule, on_top, with_rule}
+use Rattle.command_words.specs.Arguments.{begun, check_app}
+use Rattle.command_words.proofs.reading.check_command.Goals as goal
+
+pub returns : goal.returns
+returns c =
+    let start : app_of c.disable_help_flag-begun.result ≡ begun (codes "check") =
+    ap app_of_fields c.disable_help_flag-begun.ensures ∙ ap (on_top (λ s. record s { disable_help_flag = true })) c.new.ensures.app in
+    let map_is : rule_of c.new-map.result ≡ new_rule (codes "map") = search rules in
+    let plan_is : rule_of c.new-plan.result ≡ new_rule (codes "plan") = search rules in
+    c.in_ok-command.ensures.shape (search rules) ∙ ap₂ with_rule (c.in_ok-arg.ensures.shape (search rules) ∙ ap₂ with_rule start map_is) plan_is

@@ -1,0 +1,40 @@
+-- The commands of the program, by the words of its command line without the program's own name.
+use Rattle.std.specs.Prelude.{ℕ, ◌≡◌, Bool, List, [], ◌∷◌, codes}
+use Rattle.command_words.specs.declared.command.Command.{Command}
+use Rattle.command_words.specs.declared.command.Command.TheVariants.{Check, Run}
+use Rattle.command_words.specs.Grammar.{Grammar, Part, IsWritten, IsNumberOr, value_in, is_given}
+
+-- `check` has no options
+abbrev pub check_grammar : Grammar
+check_grammar = record { options = []; flags = [] }
+
+-- `run` has `--budget N` and `--quiet`
+abbrev pub run_grammar : Grammar
+run_grammar = record { options = codes "budget" ∷ []; flags = codes "quiet" ∷ [] }
+
+-- the words are `check MAP PLAN`
+pub record IsCheck (words : List (List ℕ)) (map_name plan_name : List ℕ) : Type 0 where
+  pub parts : List Part
+  pub written : IsWritten (codes "check") check_grammar words parts (map_name ∷ plan_name ∷ [])
+
+-- the words are `run MAP PLAN JOURNAL [--budget N] [--quiet]`, with N from 0 to 4,096; without it the budget is 128
+pub record IsRun (words : List (List ℕ)) (map_name plan_name journal : List ℕ) (budget : ℕ) (quiet : Bool) : Type 0 where
+  pub parts : List Part
+  pub written : IsWritten (codes "run") run_grammar words parts (map_name ∷ plan_name ∷ journal ∷ [])
+  pub budget_is : IsNumberOr 128 0 4096 (value_in (codes "budget") parts) budget
+  pub quiet_is : quiet ≡ is_given (codes "quiet") parts
+
+-- the words are those of this command
+abbrev pub IsCommand : List (List ℕ) → Command → Type 0
+IsCommand words (Check m p) = IsCheck words m.now p.now
+IsCommand words (Run m p j budget quiet) = IsRun words m.now p.now j.now budget quiet
+
+-- the words are those of no command
+abbrev pub IsUsage : List (List ℕ) → Type 0
+IsUsage words = (command : Command) → IsCommand words command → ⊥
+
+-- two commands are one: they have the same names, numbers and flags
+abbrev pub AreOne : Command → Command → Type 0
+AreOne (Check m p) (Check m2 p2) = (m.now ≡ m2.now) × (p.now ≡ p2.now)
+AreOne (Run m p j budget quiet) (Run m2 p2 j2 budget2 quiet2) = (m.now ≡ m2.now) × (p.now ≡ p2.now) × (j.now ≡ j2.now) × (budget ≡ budget2) × (quiet ≡ quiet2)
+AreOne _ _ = ⊥
