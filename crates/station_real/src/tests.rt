@@ -2,6 +2,7 @@
 use crate::side_file::{PIECE, folder_of};
 use crate::{RealShelf, RealSource, RealStation, StandardStreams};
 use station_api::{AttachFault, DiskSide, Shelf, ShelfFault, Source, Station, sync_both};
+use std::alloc::Global;
 use std::fs::{File, OpenOptions};
 use std::process::Abort;
 use std::rt::Files;
@@ -144,24 +145,42 @@ fn assert_is_locked_out<S: Station>(rt: &impl Abort, station: &mut S) -> Result<
     Ok(())
 }
 
+/// Over a journal of this name that has no files yet.
+fn assert_excludes<R: AllocGlobal + Abort, S: Station>(
+    rt: &R,
+    journal: &str,
+    first: &mut S,
+    second: &mut S,
+) -> Result<(), Fail>
+    requires { S.tells → ⊥ }
+{
+    first.attach(rt.alloc(), journal)?;
+    first.write_at(DiskSide::A, 0, b"abc")?;
+    second.attach(rt.alloc(), journal)?;
+    assert_is_locked_out(rt, second)?;
+    second.attach(rt.alloc(), journal)?;
+    first.write_at(DiskSide::B, 0, b"b")?;
+    Ok(())
+}
+
+/// Over the journal that the first has let go.
+fn assert_has_its_turn<S: Station>(rt: &impl Abort, station: &mut S) -> Result<(), Fail>
+    requires { S.tells → ⊥ }
+{
+    station.sync(DiskSide::A)?;
+    assert_eq!(rt; station.length(DiskSide::B)?, 1);
+    Ok(())
+}
+
 #[test]
 fn a_journal_has_one_station_at_a_time(rt: HostRuntime) -> Result<(), Fail> {
     let folder = make_folder(rt, "lock")?;
     let journal = format!(in rt.alloc(); "{folder}/journal")?;
-    let mut first = RealStation::new(rt);
     let mut second = RealStation::new(rt);
-    first.attach(rt.alloc(), journal.as_str())?;
-    second.attach(rt.alloc(), journal.as_str())?;
-    first.sync(DiskSide::A)?;
-    first.write_at(DiskSide::A, 0, b"abc")?;
-    assert_eq!(rt; second.length(DiskSide::A)?, 0);
-    second.attach(rt.alloc(), journal.as_str())?;
-    assert_is_locked_out(&rt, &mut second)?;
-    second.attach(rt.alloc(), journal.as_str())?;
-    first.write_at(DiskSide::B, 0, b"b")?;
+    let mut first = RealStation::new(rt);
+    assert_excludes(&rt, journal.as_str(), &mut first, &mut second)?;
     drop(first);
-    second.sync(DiskSide::A)?;
-    assert_eq!(rt; second.length(DiskSide::B)?, 1);
+    assert_has_its_turn(&rt, &mut second)?;
     fs::remove_dir_all(&rt, folder.as_str())?;
     Ok(())
 }
@@ -193,23 +212,51 @@ fn sync_writes<S: Station>(station: &mut S, file: &File) -> Result<bool, Fail>
     Ok(file.metadata()?.modified()? != UNIX_EPOCH)
 }
 
+/// So many bytes, no two that follow one another the same.
+fn bytes_of(alloc: Global, length: usize) -> Result<Vec<u8>, Fail> {
+    let mut bytes = Vec::new(alloc);
+    for place in 0..length {
+        bytes.push((place % 251) as u8)?;
+    }
+    Ok(bytes)
+}
+
+/// Over a new station and side A's file.
+fn assert_writes_again<S: Station>(
+    rt: &impl Abort,
+    station: &mut S,
+    file: &File,
+    length: usize,
+) -> Result<(), Fail>
+    requires { S.tells → ⊥ }
+{
+    assert_eq!(rt; sync_writes(station, file)?, length > 0);
+    assert!(rt; !sync_writes(station, file)?);
+    Ok(())
+}
+
+fn assert_bytes_stay<R: Files<File = File> + Print + AllocGlobal + Abort>(
+    rt: &R,
+    journal: &str,
+    length: usize,
+) -> Result<(), Fail> {
+    let path = format!(in rt.alloc(); "{journal}.a")?;
+    let bytes = bytes_of(rt.alloc(), length)?;
+    fs::write(rt, path.as_str(), bytes.as_slice())?;
+    let file = OpenOptions::new().write(true).open(rt, path.as_str())?;
+    let mut station = RealStation::new(rt);
+    station.attach(rt.alloc(), journal)?;
+    assert_writes_again(rt, &mut station, &file, length)?;
+    assert_eq!(rt; fs::read(rt, path.as_str())?, bytes);
+    Ok(())
+}
+
 #[test]
 fn the_first_sync_writes_all_bytes_again(rt: HostRuntime) -> Result<(), Fail> {
     let folder = make_folder(rt, "again")?;
     let journal = format!(in rt.alloc(); "{folder}/journal")?;
-    let path = format!(in rt.alloc(); "{folder}/journal.a")?;
     for length in [0, 1, PIECE - 1, PIECE, PIECE + 1, 2 * PIECE + 3] {
-        let mut bytes = Vec::new(rt.alloc());
-        for place in 0..length {
-            bytes.push((place % 251) as u8)?;
-        }
-        fs::write(&rt, path.as_str(), bytes.as_slice())?;
-        let file = OpenOptions::new().write(true).open(&rt, path.as_str())?;
-        let mut station = RealStation::new(rt);
-        station.attach(rt.alloc(), journal.as_str())?;
-        assert_eq!(rt; sync_writes(&mut station, &file)?, length > 0);
-        assert!(rt; !sync_writes(&mut station, &file)?);
-        assert_eq!(rt; fs::read(&rt, path.as_str())?, bytes);
+        assert_bytes_stay(&rt, journal.as_str(), length)?;
     }
     fs::remove_dir_all(&rt, folder.as_str())?;
     Ok(())
