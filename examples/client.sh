@@ -6,11 +6,12 @@ mkfifo "$pipes/reports" "$pipes/answers"
 "$1" run "$2" "$3" "$4" <"$pipes/reports" >"$pipes/answers" &
 exec 3>"$pipes/reports" 4<"$pipes/answers"
 due=1
-while [ "$due" -gt 0 ] && read -r word robot visit rest <&4; do
-    echo "$word $robot $visit $rest"
-    case $word in
+while [ "$due" -gt 0 ] && IFS= read -r line <&4; do
+    echo "$line"
+    set -- $line
+    case $1 in
     ready) echo "arrive 0 0 $(date +%s)" >&3 ;; # known: its answer comes behind the whole greeting
-    release) echo "arrive $robot $visit $(date +%s)" >&3 && due=$((due + 1)) ;;
+    release) echo "arrive $2 $3 $(date +%s)" >&3 && due=$((due + 1)) ;;
     ok | known | refused) due=$((due - 1)) ;;
     esac
 done
