@@ -5,3 +5,5 @@
 mod answering;
 #[cfg(test)]
 mod checking;
+#[cfg(test)]
+mod wording;

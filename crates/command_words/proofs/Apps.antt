@@ -5,7 +5,7 @@ use Rattle.clap.specs.Simple.{is_simple}
 use Rattle.clap.specs.Faults.{is_simple_and_free}
 use Rattle.command_words.specs.Arguments.{check_app, run_app}
 use Rattle.command_words.specs.Commands.{check_grammar, run_grammar}
-use Rattle.command_words.proofs.Steps.{option_rule, flag_rule, name_rule, Fits, Knows}
+use Rattle.command_words.proofs.Steps.{option_rule, flag_rule, name_rule, Knows}
 use Rattle.command_words.proofs.Whole.{IsApp, option_default, flag_default, name_default}
 
 -- ---- `check`

@@ -1,9 +1,9 @@
 -- What is found in the words of a command is what the words give, and other words are refused.
-use Rattle.std.proofs.Common.{◌≡◌, ◌∙◌, ◌+◌, ◌≤◌, ◌⊎◌, inl, inr, refl, sym, ap, subst, arith, ℕ, Bool, true, false, List, [], ◌∷◌, codes, length, Option, Some, None}
+use Rattle.std.proofs.Common.{◌≡◌, ◌∙◌, ◌≤◌, inl, inr, refl, sym, ap, subst, arith, ℕ, Bool, true, false, List, [], ◌∷◌, codes, length, Option, Some, None}
 use Rattle.std.specs.Prelude.{flat_map}
 use Rattle.std.proofs.lemmas.Bool.{cases_Bool}
 use Rattle.std.proofs.lemmas.Fmt.{decimal_injective}
-use Rattle.clap.specs.Walk.{Row, Rule, Text, first_of, has_row, one_of, with_default}
+use Rattle.clap.specs.Walk.{Row, Text, first_of, has_row, one_of, with_default}
 use Rattle.clap.specs.Simple.{matches_of}
 use Rattle.clap.specs.Faults.{fault_of}
 use Rattle.clap.specs.Matches.{first_value, one_text}
@@ -19,7 +19,7 @@ use Rattle.command_words.specs.Grammar.{Part, words_of, AreParts, AreOnce, names
 use Rattle.command_words.proofs.Steps.{option_rule, flag_rule, name_rule}
 use Rattle.command_words.proofs.Matching.{rows_in}
 use Rattle.command_words.proofs.Values.{named, flag_text, value_is, name_is, flag_is, other_kept}
-use Rattle.command_words.proofs.Whole.{Gives, words_give, words_found, parts_known}
+use Rattle.command_words.proofs.Whole.{words_give, words_found, parts_known}
 use Rattle.command_words.proofs.Apps.{check_is, check_ids, check_rules, run_is, run_ids, run_rules}
 
 option_plain : (o : Text) (rows : List Row) → with_default rows (option_rule o) ≡ rows

@@ -1,12 +1,11 @@
 -- Words that `clap` does not refuse, each of which is known, are those of parts.
-use Rattle.std.proofs.Common.{◌≡◌, ◌∙◌, ◌+◌, ◌≤◌, ◌⊎◌, inl, inr, refl, sym, ap, subst, arith, rules, ℕ, suc, Bool, true, false, List, [], ◌∷◌, ◌++◌, length, Option, Some, None}
+use Rattle.std.proofs.Common.{◌≡◌, ◌∙◌, ◌≤◌, refl, sym, ap, subst, arith, ℕ, suc, true, false, List, [], ◌∷◌, ◌++◌, length}
 use Rattle.std.specs.Prelude.{bytes_eq, flat_map, fold}
-use Rattle.clap.specs.Walk.{Held, Row, Rule, Text, Walk, has_row, reacted, settled, used, walked, arg_by_id}
-use Rattle.clap.specs.Kinds.{Kinds, or_else}
+use Rattle.clap.specs.Walk.{Held, Row, Rule, Text, Walk, has_row, reacted, settled, walked}
 use Rattle.clap.specs.Faults.{settle_fault, turn_fault, use_fault, walk_fault}
 use Rattle.command_words.specs.Grammar.{Grammar, Part, name, flag, joined, apart, IsName, IsOneOf, dashed, words_of, AreParts, AreOnce, names_in, keys_in}
 use Rattle.command_words.specs.Telling.{IsKnown, a_name, a_flag, an_option, with_value, AreKnown}
-use Rattle.command_words.proofs.Steps.{option_rule, flag_rule, name_rule, shape, Fits, Knows, NamesAt, at, owing, holding, name_is_plain, flag_step, joined_step, open_step, value_step, name_step, flag_turn, joined_turn, open_turn, value_turn, name_turn, stray_turn, owing_flag, owing_joined, owing_open, owing_end, turns}
+use Rattle.command_words.proofs.Steps.{option_rule, flag_rule, name_rule, shape, Fits, Knows, NamesAt, at, owing, holding, name_is_plain, flag_step, joined_step, open_step, value_step, name_step, flag_turn, joined_turn, open_turn, name_turn, stray_turn, owing_flag, owing_joined, owing_open, owing_end, turns}
 use Rattle.command_words.proofs.Rows.{option_row, flag_row, name_row, none_left, none_right, option_used, flag_used, name_used, option_free, flag_free, name_free, once_more, still_fresh}
 
 -- the words are those of parts, and nothing is refused from here on

@@ -1,12 +1,12 @@
 -- What the code asks of each word.
-use Rattle.std.proofs.Common.{◌≡◌, ◌∙◌, ◌+◌, ◌-◌, ◌<◌, ◌⊎◌, inl, inr, refl, sym, ap, subst, arith, ℕ, zero, suc, List, [], ◌∷◌, ◌++◌, length, drop, take, map, append-nil}
+use Rattle.std.proofs.Common.{◌≡◌, ◌∙◌, ◌-◌, ◌<◌, inl, inr, refl, sym, ap, subst, arith, ℕ, zero, suc, List, [], ◌∷◌, ◌++◌, length, drop, take, map, append-nil}
 use Rattle.std.specs.Prelude.{All, Any, Some, slice_get}
 use Rattle.std.specs.List.{slice_index_or}
 use Rattle.std.specs.Borrow.{Bor}
 use Rattle.std.proofs.lemmas.List.{take_rest}
 use Rattle.command_words.specs.declared.keys.Keys.{Keys}
 use Rattle.command_words.specs.Grammar.{Grammar, IsName, IsOneOf, dashed}
-use Rattle.command_words.specs.Telling.{IsKey, IsKnown, IsValue, UsesOption, a_name, a_flag, an_option, with_value, grammar_of, AreKnown}
+use Rattle.command_words.specs.Telling.{IsKey, IsKnown, UsesOption, a_name, a_flag, an_option, with_value, grammar_of, AreKnown}
 
 -- ---- lists by index, and word by word
 

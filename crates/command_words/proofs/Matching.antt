@@ -1,14 +1,11 @@
 -- In the words of parts, each at most once, `clap` refuses nothing and finds each use.
-use Rattle.std.proofs.Common.{◌≡◌, ◌∙◌, ◌+◌, ◌≤◌, ◌⊎◌, inl, inr, refl, sym, ap, subst, arith, ℕ, suc, Bool, true, false, List, [], ◌∷◌, ◌++◌, length, Option, Some, None, append-nil}
-use Rattle.std.specs.Prelude.{flat_map, fold, bytes_eq}
-use Rattle.std.proofs.lemmas.Bool.{cases_Bool}
-use Rattle.std.proofs.lemmas.Slice.Eq.{bytes_eq-Decides}
-use Rattle.clap.specs.Walk.{Held, Row, Rule, Text, Walk, has_row, reacted, settled, used, walked, arg_by_id}
+use Rattle.std.proofs.Common.{◌≡◌, ◌∙◌, ◌≤◌, ◌⊎◌, inl, inr, refl, sym, ap, arith, ℕ, suc, false, List, [], ◌∷◌, ◌++◌, length, append-nil}
+use Rattle.std.specs.Prelude.{flat_map, fold}
+use Rattle.clap.specs.Walk.{Held, Row, Rule, Text, Walk, has_row, reacted, settled, walked}
 use Rattle.clap.specs.Simple.{Shape}
-use Rattle.clap.specs.Kinds.{or_else}
-use Rattle.clap.specs.Faults.{settle_fault, turn_fault, use_fault, walk_fault}
-use Rattle.command_words.specs.Grammar.{Grammar, Part, name, flag, joined, apart, IsName, IsOneOf, dashed, words_of, AreParts, AreOnce, names_in, keys_in}
-use Rattle.command_words.proofs.Steps.{option_rule, flag_rule, name_rule, shape, Fits, NamesAt, at, owing, holding, name_is_plain, flag_step, joined_step, open_step, value_step, name_step, flag_turn, joined_turn, open_turn, value_turn, name_turn, turns}
+use Rattle.clap.specs.Faults.{settle_fault, turn_fault, walk_fault}
+use Rattle.command_words.specs.Grammar.{Grammar, Part, name, flag, joined, apart, IsOneOf, dashed, words_of, AreParts, AreOnce, names_in, keys_in}
+use Rattle.command_words.proofs.Steps.{option_rule, flag_rule, shape, Fits, NamesAt, at, owing, holding, name_is_plain, flag_step, joined_step, open_step, value_step, name_step, flag_turn, joined_turn, open_turn, value_turn, name_turn, turns}
 use Rattle.command_words.proofs.Rows.{option_row, flag_row, name_row, none_both, option_used, flag_used, name_used, option_clear, flag_clear, name_clear, free_after, push_append}
 
 -- the ids of what is used, where the names have these ids

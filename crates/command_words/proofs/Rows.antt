@@ -1,14 +1,14 @@
 -- What the uses of arguments leave, row by row.
-use Rattle.std.proofs.Common.{◌≡◌, ◌∙◌, ◌||◌, ◌==◌, ◌⊎◌, inl, inr, refl, sym, ap, subst, arith, rules, ℕ, suc, Bool, true, false, List, [], ◌∷◌, ◌++◌, codes, Option, Some, None, true≢false}
+use Rattle.std.proofs.Common.{◌≡◌, ◌∙◌, ◌||◌, inl, inr, refl, sym, ap, subst, ℕ, Bool, true, false, List, [], ◌∷◌, ◌++◌, codes, Some, None, true≢false}
 use Rattle.std.specs.Prelude.{bytes_eq}
 use Rattle.std.proofs.lemmas.Bool.{cases_Bool}
 use Rattle.std.proofs.lemmas.Slice.Eq.{bytes_eq-Decides}
-use Rattle.clap.specs.Walk.{Held, Row, Rule, Text, at_row, has_row, more_values, reading_by, settled, settled_rows, used}
+use Rattle.clap.specs.Walk.{Row, Text, at_row, has_row, more_values, reading_by, used}
 use Rattle.clap.specs.Kinds.{Kinds, or_else}
-use Rattle.clap.specs.Faults.{settle_fault, use_fault}
+use Rattle.clap.specs.Faults.{use_fault}
 use Rattle.clap.specs.declared.parser.matches.ValueSource.TheVariants.{CommandLine}
 use Rattle.command_words.specs.Grammar.{IsOneOf, AreOnce}
-use Rattle.command_words.proofs.Steps.{option_rule, flag_rule, name_rule, holding}
+use Rattle.command_words.proofs.Steps.{option_rule, flag_rule, name_rule}
 
 -- the row of an option, of a flag, and of a name
 abbrev pub option_row : Text → Text → Row

@@ -1,16 +1,14 @@
 -- What `clap` makes of each word of a command.
-use Rattle.std.proofs.Common.{◌≡◌, ◌∙◌, ◌+◌, ◌&&◌, ◌⊎◌, ◌==◌, ◌≢◌, inl, inr, refl, sym, ap, subst, arith, rules, ℕ, suc, Bool, true, false, not, eqb-true, List, [], ◌∷◌, ◌++◌, codes, min, Option, Some, None}
-use Rattle.std.specs.Prelude.{fold, flat_map, bytes_eq}
+use Rattle.std.proofs.Common.{◌≡◌, ◌+◌, ◌&&◌, ◌==◌, inl, inr, refl, ℕ, suc, Bool, true, false, eqb-true, List, [], ◌∷◌, ◌++◌, min, Some, None}
+use Rattle.std.specs.Prelude.{bytes_eq}
 use Rattle.std.proofs.lemmas.Bool.{cases_Bool}
 use Rattle.clap.specs.Lexer.{long_of, short_of, usize_max}
-use Rattle.clap.specs.Walk.{Held, Row, Rule, Text, Walk, idle, option, arg_by_id, arg_by_index, arg_by_long, has_row, reacted, reading_by, settled, settled_rows, used, walked, is_pending}
-use Rattle.clap.specs.Walk.{at_row, takes_several}
+use Rattle.clap.specs.Walk.{Held, Rule, Text, Walk, idle, option, arg_by_id, arg_by_index, arg_by_long, reacted, settled, walked, is_pending}
 use Rattle.clap.specs.Simple.{Shape, filled, new_rule, new_shape, with_index}
-use Rattle.clap.specs.Kinds.{Kinds, or_else}
+use Rattle.clap.specs.Kinds.{or_else}
 use Rattle.clap.specs.Faults.{settle_fault, turn_fault, use_fault, walk_fault}
 use Rattle.clap.specs.declared.builder.action.ArgAction.TheVariants.{SetTrue}
 use Rattle.clap.specs.declared.error.kind.ErrorKind.TheVariants as kind
-use Rattle.clap.specs.declared.parser.matches.ValueSource.TheVariants.{CommandLine}
 use Rattle.command_words.specs.Grammar.{Grammar, IsName, IsOneOf, dashed}
 
 -- ---- a command, as it is built

@@ -1,12 +1,11 @@
 -- What the rows of parts say of each option, flag and name.
-use Rattle.std.proofs.Common.{◌≡◌, ◌∙◌, ◌+◌, ◌≤◌, ◌⊎◌, ◌||◌, inl, inr, refl, sym, ap, subst, arith, ℕ, suc, Bool, true, false, if◌then◌else◌, List, [], ◌∷◌, ◌++◌, codes, length, Option, Some, None}
+use Rattle.std.proofs.Common.{◌≡◌, ◌∙◌, ◌≤◌, inl, inr, refl, sym, ap, subst, arith, Bool, true, false, if◌then◌else◌, List, [], ◌∷◌, codes, length, Option, Some, None}
 use Rattle.std.specs.Prelude.{bytes_eq, find}
 use Rattle.std.proofs.lemmas.Bool.{cases_Bool}
 use Rattle.std.proofs.lemmas.Slice.Eq.{bytes_eq-Decides}
-use Rattle.clap.specs.Walk.{Row, Rule, Text, at_row, first_of, has_row, one_of, with_default, with_values, reading_by}
+use Rattle.clap.specs.Walk.{Row, Text, first_of, has_row, one_of, with_default, with_values, reading_by}
 use Rattle.command_words.specs.Grammar.{Grammar, Part, name, flag, joined, apart, IsOneOf, AreParts, names_in, value_in, is_given}
-use Rattle.command_words.proofs.Steps.{option_rule, flag_rule, name_rule}
-use Rattle.command_words.proofs.Rows.{option_row, flag_row, name_row}
+use Rattle.command_words.proofs.Steps.{flag_rule}
 use Rattle.command_words.proofs.Matching.{rows_in}
 
 -- another text

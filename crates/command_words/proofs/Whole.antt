@@ -1,17 +1,16 @@
 -- What `clap` makes of all words of a command.
-use Rattle.std.proofs.Common.{◌≡◌, ◌∙◌, ◌+◌, ◌≤◌, ◌⊎◌, ◌||◌, inl, inr, refl, sym, ap, subst, arith, ℕ, suc, Bool, true, false, List, [], ◌∷◌, ◌++◌, codes, length, Option, Some, None}
-use Rattle.std.specs.Prelude.{bytes_eq, flat_map, fold}
+use Rattle.std.proofs.Common.{◌≡◌, ◌≤◌, ◌⊎◌, ◌||◌, inl, inr, refl, sym, ap, subst, ℕ, Bool, true, false, List, [], ◌∷◌, length}
+use Rattle.std.specs.Prelude.{flat_map, fold}
 use Rattle.std.proofs.lemmas.Bool.{cases_Bool}
-use Rattle.clap.specs.Walk.{Held, Row, Rule, Text, Walk, has_row, nothing_held, settled, walk, walk_from, walked, with_default}
-use Rattle.clap.specs.Simple.{App, argument_words, built, entered, matches_of}
-use Rattle.clap.specs.Kinds.{Kinds, or_else}
-use Rattle.clap.specs.Faults.{check_fault, default_fault, defaults_fault, entered_fault, fault_of, settle_fault, walk_fault}
+use Rattle.clap.specs.Walk.{Row, Rule, Text, has_row, nothing_held, settled, walk_from, walked, with_default}
+use Rattle.clap.specs.Simple.{App, built, matches_of}
+use Rattle.clap.specs.Faults.{check_fault, default_fault, defaults_fault, fault_of, settle_fault, walk_fault}
 use Rattle.command_words.specs.Grammar.{Grammar, Part, name, flag, joined, apart, IsOneOf, words_of, AreParts, AreOnce, names_in, keys_in}
 use Rattle.command_words.specs.Telling.{AreKnown, a_name, a_flag, an_option, with_value}
 use Rattle.command_words.proofs.Steps.{option_rule, flag_rule, name_rule, shape, Fits, NamesAt, at}
 use Rattle.command_words.proofs.Rows.{none_left, none_right, none_both}
 use Rattle.command_words.proofs.Finding.{Found, found}
-use Rattle.command_words.proofs.Matching.{rows_in, uses, Leaves, leaves, AreApart, used_once}
+use Rattle.command_words.proofs.Matching.{rows_in, leaves, used_once}
 
 -- no default is refused
 abbrev pub AreClear : List Rule → Type 0

@@ -46,15 +46,17 @@ pub fn task_of<'w, H: Shelf>(
     ensures counted { Counted (H.counts shelf.old) (H.counts shelf.new) }
 {
     match papers_for(alloc, words, shelf) {
-        Ok((
-            Command::Run {
-                journal,
-                budget,
-                quiet,
-                ..
-            },
-            papers,
-        )) => Ok(Task::Serve {
+        Ok(
+            (
+                Command::Run {
+                    journal,
+                    budget,
+                    quiet,
+                    ..
+                },
+                papers,
+            ),
+        ) => Ok(Task::Serve {
             papers,
             journal,
             budget,

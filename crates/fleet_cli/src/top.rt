@@ -54,12 +54,14 @@ pub fn fleet_main<H: Shelf, S: Source, T: Station>(
 {
     match task_of(alloc, words, shelf) {
         Ok(Task::Say(reply)) => say(station, reply.text.as_slice(), reply.status),
-        Ok(Task::Serve {
-            papers,
-            journal,
-            budget,
-            quiet,
-        }) => run(alloc, &papers, journal, budget, quiet, source, station),
+        Ok(
+            Task::Serve {
+                papers,
+                journal,
+                budget,
+                quiet,
+            },
+        ) => run(alloc, &papers, journal, budget, quiet, source, station),
         Err(_) => Status::Memory,
     }
 }

@@ -1,4 +1,4 @@
-use Rattle.std.proofs.Common.{◌≡◌, ◌∙◌, refl, sym, ap, subst, arith, ℕ, List, Option, Some}
+use Rattle.std.proofs.Common.{◌≡◌, ◌∙◌, sym, ap, subst, arith, ℕ, List, Option, Some}
 use Rattle.std.specs.Prelude.{option_map, ◌≤◌}
 use Rattle.std.proofs.lemmas.Fmt.{decimal_injective}
 use Rattle.fleet_base.specs.Bytes.{IsNumber}

@@ -1,7 +1,7 @@
-use Rattle.std.proofs.Common.{rules, ◌≡◌, ◌∙◌, ap, ap₂, refl, true, codes}
+use Rattle.std.proofs.Common.{rules, ◌≡◌, ◌∙◌, ap, ap₂, true, codes}
 use Rattle.clap.specs.Walk.{rule_of}
-use Rattle.clap.specs.Simple.{App, app_of, app_of_fields, new_rule, on_top, with_rule}
-use Rattle.command_words.specs.Arguments.{begun, check_app}
+use Rattle.clap.specs.Simple.{app_of, app_of_fields, new_rule, on_top, with_rule}
+use Rattle.command_words.specs.Arguments.{begun}
 use Rattle.command_words.proofs.reading.check_command.Goals as goal
 
 pub returns : goal.returns

@@ -1,8 +1,8 @@
-use Rattle.std.proofs.Common.{rules, ◌≡◌, ◌∙◌, ap, ap₂, refl, true, codes, Some}
+use Rattle.std.proofs.Common.{rules, ◌≡◌, ◌∙◌, ap, ap₂, true, codes, Some}
 use Rattle.clap.specs.Walk.{rule_of}
-use Rattle.clap.specs.Simple.{App, app_of, app_of_fields, new_rule, on_top, with_rule}
+use Rattle.clap.specs.Simple.{app_of, app_of_fields, new_rule, on_top, with_rule}
 use Rattle.clap.specs.declared.builder.action.ArgAction.TheVariants.{SetTrue}
-use Rattle.command_words.specs.Arguments.{begun, run_app}
+use Rattle.command_words.specs.Arguments.{begun}
 use Rattle.command_words.proofs.reading.run_command.Goals as goal
 
 pub returns : goal.returns

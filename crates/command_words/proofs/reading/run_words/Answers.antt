@@ -1,4 +1,4 @@
-use Rattle.std.proofs.Common.{◌≡◌, ◌∙◌, ap, ap₂, sym, subst, List, ℕ, true, false, true≢false}
+use Rattle.std.proofs.Common.{◌∙◌, ap₂, sym, subst, List, ℕ, true≢false}
 use Rattle.std.specs.Prelude.{string_bytes}
 use Rattle.clap.specs.Faults.{fault_of}
 use Rattle.clap.specs.Matches.{found_of}
