@@ -4,6 +4,8 @@
 #[cfg(test)]
 mod checking;
 #[cfg(test)]
+mod costs;
+#[cfg(test)]
 mod optimal;
 #[cfg(test)]
 mod scenes;

@@ -25,6 +25,12 @@ const HALL: &[u8] = b"type octile\nheight 3\nwidth 6\nmap\n.@@@@.\n......\n.@@@@
 const CORRIDOR: &[u8] =
     b"Agent 0: (0,0)->(1,0)->(1,1)->(1,2)->(1,3)->(1,4)->(1,5)->(2,5)\nAgent 1: (0,5)->(0,5)->(0,5)->(0,5)->(0,5)->(0,5)->(0,5)->(1,5)->(1,4)->(1,3)->(1,2)->(1,1)->(1,0)->(2,0)\n";
 
+const TWO_HALLS: &[u8] =
+    b"type octile\nheight 5\nwidth 11\nmap\n.@@@.@@@.@@\n.@@@.@@@.@@\n.....@.....\n.@@@.@@@.@@\n.@@@.@@@.@@\n";
+
+const TWO_MEETINGS: &[u8] =
+    b"Agent 0: (0,0)->(1,0)->(2,0)->(2,1)->(2,2)->(2,3)->(2,4)->(3,4)->(4,4)\nAgent 1: (0,4)->(0,4)->(0,4)->(0,4)->(0,4)->(0,4)->(1,4)->(2,4)->(2,3)->(2,2)->(2,1)->(2,0)->(3,0)->(4,0)\nAgent 2: (2,6)->(2,7)->(2,8)->(2,9)->(2,10)\nAgent 3: (1,8)->(1,8)->(1,8)->(2,8)->(3,8)\n";
+
 /// A report that is accepted, and the pair that it switches.
 pub type Step = (Report, Option<u32>);
 
@@ -50,6 +56,16 @@ pub fn corridor(steps: &[Step]) -> Scene<'_> {
     Scene {
         map: HALL,
         plan: CORRIDOR,
+        steps,
+    }
+}
+
+/// Two robots go through a hall in opposite directions, and have the pairs 0 to 4, which are one group; two more cross, and
+/// have pair 5, which is another.
+pub fn meetings(steps: &[Step]) -> Scene<'_> {
+    Scene {
+        map: TWO_HALLS,
+        plan: TWO_MEETINGS,
         steps,
     }
 }
