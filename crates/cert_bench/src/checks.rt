@@ -2,7 +2,7 @@
 ghost use Rattle.std.specs.Prelude.{◌≡◌, ◌<◌, ◌^◌, All, length, IfSome};
 ghost use Rattle.fleet_base.specs.Rules.{IsFleetState};
 ghost use Rattle.cert_tree.specs.CertText.{IsWritten};
-ghost use Rattle.cert_check.specs.Rooms.{room_for};
+ghost use Rattle.cert_check.specs.Rooms.{IsRoomFor};
 
 use crate::state::first;
 use crate::tree::{Kind, Tree};
@@ -16,7 +16,9 @@ use std::alloc::Global;
 /// certificate, or memory is wanting.
 pub fn judged(alloc: Global, tree: &Tree, text: &[u8], reads: u64, checks: u64) -> Option<bool> {
     let (graph, fleet) = first(alloc, tree.crossings)?;
-    let mut scratch = Scratch::new(alloc, &graph).ok()?;
+    let Ok(mut scratch) = Scratch::new(alloc, &graph) else {
+        return None;
+    };
     let cert = read_often(alloc, text, reads)?;
     Some(check_often(&graph, &fleet, tree, &cert, &mut scratch, checks))
 }
@@ -55,7 +57,7 @@ fn check_often(
     requires state { IsFleetState graph.now fleet.now }
     requires nodes { All IsWritten cert.now }
     requires few { length cert.now < 2 ^ 32 }
-    requires room { scratch.old ≡ room_for graph.now }
+    requires room { IsRoomFor graph.now scratch.old }
 {
     for _ in 0..times {
         if check_once(graph, fleet, tree, cert, scratch) != Verdict::Yes {
@@ -75,7 +77,7 @@ fn check_once(
     requires state { IsFleetState graph.now fleet.now }
     requires nodes { All IsWritten cert.now }
     requires few { length cert.now < 2 ^ 32 }
-    requires room { scratch.old ≡ room_for graph.now }
+    requires room { IsRoomFor graph.now scratch.old }
     ensures room { scratch.new ≡ scratch.old }
 {
     let left = tree.relaxed();

@@ -4,7 +4,8 @@ ghost use Rattle.std.specs.Prelude.{◌<◌, ◌≤◌, ◌^◌};
 use std::alloc::Global;
 use std::fmt::{self, Write};
 
-/// How many crossings there are, side by side, and how many cells a robot passes before the middle, and after it.
+/// How many crossings there are, in rows as wide as a map can be, and how many cells a robot passes before the middle, and
+/// after it.
 #[derive(Clone, Copy)]
 pub struct Crossings {
     pub count: u8,
@@ -19,10 +20,19 @@ impl Crossings {
         2 * u64::from(self.arm)
     }
 
+    /// How many stand side by side.
+    fn abreast(self) -> u64
+        ensures { 1 ≤ result }
+    {
+        4096 / (self.way() + 2)
+    }
+
     /// The text of the map, which has free cells alone.
     pub fn map_text(self, alloc: Global) -> Result<String, fmt::Error> {
         let mut text = String::new(alloc);
-        let (height, width) = (self.way() + 1, u64::from(self.count) * (self.way() + 2));
+        let (count, abreast, room) = (u64::from(self.count), self.abreast(), self.way() + 2);
+        let height = count.div_ceil(abreast) * room;
+        let width = count.min(abreast) * room;
         write!(text, "type octile\nheight {height}\nwidth {width}\nmap\n")?;
         for _ in 0..height {
             for _ in 0..width {
@@ -36,18 +46,20 @@ impl Crossings {
     /// The text of the plan: the robot from the left is the first one in the middle, and the other comes two ticks later.
     pub fn plan_text(self, alloc: Global) -> Result<String, fmt::Error> {
         let mut text = String::new(alloc);
+        let (abreast, room) = (self.abreast(), self.way() + 2);
         for crossing in 0..u64::from(self.count) {
-            let left = crossing * (self.way() + 2);
-            self.push_across(&mut text, 2 * crossing, left)?;
-            self.push_down(&mut text, 2 * crossing + 1, left)?;
+            let (top, left) = (crossing / abreast * room, crossing % abreast * room);
+            self.push_across(&mut text, 2 * crossing, top, left)?;
+            self.push_down(&mut text, 2 * crossing + 1, top, left)?;
         }
         Ok(text)
     }
 
-    fn push_across(self, text: &mut String, robot: u64, left: u64) -> fmt::Result
-        requires { left < 2 ^ 20 }
+    fn push_across(self, text: &mut String, robot: u64, top: u64, left: u64) -> fmt::Result
+        requires top { top < 2 ^ 20 }
+        requires left { left < 2 ^ 40 }
     {
-        let row = self.arm;
+        let row = top + u64::from(self.arm);
         write!(text, "Agent {robot}: ")?;
         for step in 0..=self.way() {
             let column = left + step;
@@ -57,12 +69,14 @@ impl Crossings {
         Ok(())
     }
 
-    fn push_down(self, text: &mut String, robot: u64, left: u64) -> fmt::Result
-        requires { left < 2 ^ 20 }
+    fn push_down(self, text: &mut String, robot: u64, top: u64, left: u64) -> fmt::Result
+        requires top { top < 2 ^ 20 }
+        requires left { left < 2 ^ 40 }
     {
         let column = left + u64::from(self.arm);
-        write!(text, "Agent {robot}: (0,{column})->(0,{column})->")?;
-        for row in 0..=self.way() {
+        write!(text, "Agent {robot}: ({top},{column})->({top},{column})->")?;
+        for step in 0..=self.way() {
+            let row = top + step;
             write!(text, "({row},{column})->")?;
         }
         text.write_str("\n")?;
