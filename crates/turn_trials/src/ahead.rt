@@ -5,6 +5,7 @@ ghost use Rattle.fleet_base.specs.Order.{graph_of};
 ghost use Rattle.fleet_base.specs.State.{IsWindow};
 ghost use Rattle.fleet_base.specs.Rules.{IsFleetState};
 ghost use Rattle.station_api.specs.Clock.{IsKept};
+ghost use Rattle.station_api.specs.StationState.{station_clock};
 ghost use Rattle.fleet_journal.specs.Sides.{IsBlankJournal};
 ghost use Rattle.fleet_journal.specs.Journal.{IsHeaderText};
 ghost use Rattle.fleet_recovery.specs.Papers.{new_header, papers_in};
@@ -17,7 +18,7 @@ use fleet_journal::{Journal, framed};
 use fleet_serve::{Kit, Papers, greet, step};
 use journal_frame::{Header, header_bytes};
 use plan_graph::PlanGraph;
-use station_api::Station;
+use station_api::{MemStation, Station};
 use std::alloc::Global;
 use std::test::Fail;
 use trial_base::station_of;
@@ -132,6 +133,18 @@ fn answer<T: Station>(
     Ok(())
 }
 
+/// A station that is attached, and empty.
+fn attached(alloc: Global) -> Result<MemStation, Fail>
+    ensures blank { IfOk result (λ station. IsBlankJournal (station_clock station).seen) }
+    ensures kept { IfOk result (λ station. IsKept (station_clock station)) }
+{
+    let mut station = station_of(alloc, &[])?;
+    match station.attach(alloc, "J") {
+        Ok(()) => Ok(station),
+        Err(_) => Err(Fail::from("attached")),
+    }
+}
+
 /// A window, lines, and all that is sent.
 type Row = (u32, &'static [&'static [u8]], &'static [u8]);
 
@@ -176,9 +189,9 @@ const ROWS: [Row; 4] = [
 fn robots_hold_as_many_releases_as_their_window(rt: HostRuntime) -> Result<(), Fail> {
     for (window, lines, sent) in ROWS {
         let (plan, table) = crossing(rt.alloc())?;
-        let mut station = station_of(rt.alloc(), &[])?;
-        if window == 0 || window > 8 || station.attach(rt.alloc(), "J").is_err() {
-            return Err(Fail::from("a window and a station"));
+        let mut station = attached(rt.alloc())?;
+        if window == 0 || window > 8 {
+            return Err(Fail::from("a window"));
         }
         talk(
             rt.alloc(),
