@@ -6,6 +6,8 @@ mod checking;
 #[cfg(test)]
 mod costs;
 #[cfg(test)]
+mod mates;
+#[cfg(test)]
 mod optimal;
 #[cfg(test)]
 mod scenes;

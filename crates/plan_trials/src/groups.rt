@@ -1,10 +1,10 @@
 // Groups of the pairs of plans: small ones whose groups are known, and drawn ones beside a slow closure of the definition.
-ghost use Rattle.std.specs.Prelude.{◌<◌, length};
+ghost use Rattle.std.specs.Prelude.{IfOk};
 ghost use Rattle.edge_groups.specs.Mates.{AreAllMates};
 
 use crate::reading::{listed, sound_plan};
 use crate::walks::{Dice, SQUARE, drawn_walks, text_of};
-use edge_groups::{GroupTable, groups, mate_cycle};
+use edge_groups::{GroupTable, groups};
 use fleet_base::{Pair, PairId};
 use plan_graph::PlanGraph;
 use std::alloc::Global;
@@ -12,10 +12,6 @@ use std::test::Fail;
 use switch_pairs::pairs;
 
 const OPEN: &[u8] = b"type octile\nheight 3\nwidth 6\nmap\n......\n......\n......\n";
-
-/// Two robots that go through a corridor from its two ends.
-const CORRIDOR: &[u8] =
-    b"Agent 0: (0,0)->(1,0)->(1,1)->(1,2)->(1,3)->(1,4)->(1,5)->(2,5)\nAgent 1: (0,5)->(0,5)->(0,5)->(0,5)->(0,5)->(0,5)->(0,5)->(1,5)->(1,4)->(1,3)->(1,2)->(1,1)->(1,0)->(2,0)\n";
 
 /// What is told of one pair: the name of its group, and its mates.
 #[derive(Debug, PartialEq, Eq, Drop)]
@@ -52,7 +48,7 @@ fn groups_of_small_plans(rt: HostRuntime) -> Result<(), Fail> {
     let rows: [(&[u8], &[(u32, &[u32])]); 5] = [
         // a corridor, from its two ends
         (
-            CORRIDOR,
+            b"Agent 0: (0,0)->(1,0)->(1,1)->(1,2)->(1,3)->(1,4)->(1,5)->(2,5)\nAgent 1: (0,5)->(0,5)->(0,5)->(0,5)->(0,5)->(0,5)->(0,5)->(1,5)->(1,4)->(1,3)->(1,2)->(1,1)->(1,0)->(2,0)\n",
             &[
                 (0, &[1]),
                 (0, &[0, 2]),
@@ -90,37 +86,6 @@ fn groups_of_small_plans(rt: HostRuntime) -> Result<(), Fail> {
             assert_eq!(rt; pair.group, row.0);
             assert_eq!(rt; pair.mates.as_slice(), row.1);
         }
-    }
-    Ok(())
-}
-
-/// The list of two pairs of the corridor, if they are mates.
-fn cycle_of(graph: &PlanGraph, table: &GroupTable, a: PairId, b: PairId) -> Option<[PairId; 2]>
-    requires mates { AreAllMates graph.now table.now }
-    requires there { a.0 < length graph.now.pairs }
-{
-    for mate in table.mates(a) {
-        if *mate == b {
-            return Some(mate_cycle(graph, a, *mate));
-        }
-    }
-    None
-}
-
-#[test]
-fn mates_are_a_list_of_two(rt: HostRuntime) -> Result<(), Fail> {
-    let plan = sound_plan(rt.alloc(), OPEN, CORRIDOR)?;
-    let graph = PlanGraph::new(rt.alloc(), &plan, &pairs(rt.alloc(), &plan)?)?;
-    let table = groups(rt.alloc(), &graph)?;
-    for (a, b, want) in [
-        (1, 2, Some([PairId(1), PairId(2)])),
-        (2, 1, Some([PairId(2), PairId(1)])),
-        (0, 2, None),
-    ] {
-        if a >= graph.pair_count() {
-            return Err(Fail::from("a pair"));
-        }
-        assert_eq!(rt; cycle_of(&graph, &table, PairId(a), PairId(b)), want);
     }
     Ok(())
 }

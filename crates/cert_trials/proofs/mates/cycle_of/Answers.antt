@@ -2,7 +2,7 @@ use Rattle.std.proofs.Common.{List, subst, get_or}
 use Rattle.std.specs.Prelude.{Contains}
 use Rattle.fleet_base.specs.declared.order.PairId.{PairId}
 use Rattle.fleet_base.proofs.Sorting.{here_in}
-use Rattle.plan_trials.proofs.groups.cycle_of.Goals as goal
+use Rattle.cert_trials.proofs.mates.cycle_of.Goals as goal
 
 pub mate_cycle-requires : goal.mate_cycle-requires
 mate_cycle-requires c =
