@@ -142,7 +142,7 @@ fn least_name(all: &[Told], number: usize) -> u32 {
 #[test]
 fn groups_of_drawn_plans_are_those_of_the_definition(rt: HostRuntime) -> Result<(), Fail> {
     let mut dice = Dice { state: 11 };
-    let (mut larger, mut single) = (0, 0);
+    let (mut larger, mut single) = (0_usize, 0_usize);
     for _ in 0..20 {
         let walks = drawn_walks(rt.alloc(), &mut dice, 40)?;
         let text = text_of(rt.alloc(), &walks)?;
@@ -150,8 +150,8 @@ fn groups_of_drawn_plans_are_those_of_the_definition(rt: HostRuntime) -> Result<
         let list = listed(rt.alloc(), &pairs(rt.alloc(), &plan)?)?;
         let want = slow_told(rt.alloc(), &list)?;
         let found = table_told(rt.alloc(), SQUARE, text.as_bytes())?;
-        larger += want.iter().filter(|pair| pair.mates.len() > 1).count();
-        single += want.iter().filter(|pair| pair.mates.is_empty()).count();
+        larger = larger.saturating_add(want.iter().filter(|pair| pair.mates.len() > 1).count());
+        single = single.saturating_add(want.iter().filter(|pair| pair.mates.is_empty()).count());
         assert_eq!(rt; found, want);
     }
     assert!(rt; larger > 0 && single > 0);
