@@ -2,30 +2,8 @@
 #![tactic(auto)]
 
 #[cfg(test)]
-mod ahead;
-#[cfg(test)]
-mod decisions;
-#[cfg(test)]
-mod drawn;
-#[cfg(test)]
-mod fleets;
-#[cfg(test)]
 mod groups;
 #[cfg(test)]
-mod limits;
-#[cfg(test)]
 mod reading;
-#[cfg(test)]
-mod reports;
-#[cfg(test)]
-mod rounds;
-#[cfg(test)]
-mod schedules;
-#[cfg(test)]
-mod slow;
-#[cfg(test)]
-mod steps;
-#[cfg(test)]
-mod tests;
 #[cfg(test)]
 mod walks;

@@ -1,5 +1,0 @@
-use Rattle.fleet_base.specs.Rules.{IsFleetState}
-use Rattle.plan_trials.proofs.ahead.go_on.Given as goal
-
-abbrev pub invariant-loop-turn : goal.invariant-loop-turn
-invariant-loop-turn l = IsFleetState l.graph l.fleet

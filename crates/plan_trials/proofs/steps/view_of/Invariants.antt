@@ -1,9 +1,0 @@
-use Rattle.std.proofs.Common.{ℕ, ◌≡◌, ◌<◌, None, length}
-use Rattle.std.specs.Prelude.{slice_get, slice_index_or}
-use Rattle.plan_trials.proofs.steps.view_of.Given as goal
-
-abbrev pub invariant-loop-number : goal.invariant-loop-number
-invariant-loop-number l =
-    (l.view.graph ≡ l.graph)
-    × (length l.view.sides ≡ length l.graph.pairs)
-    × ((q : ℕ) → q < l.number → slice_index_or l.view.sides q None ≡ slice_get l.fleet.sides q)
