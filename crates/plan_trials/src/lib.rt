@@ -4,6 +4,12 @@
 #[cfg(test)]
 mod groups;
 #[cfg(test)]
+mod limits;
+#[cfg(test)]
 mod reading;
+#[cfg(test)]
+mod slow;
+#[cfg(test)]
+mod tests;
 #[cfg(test)]
 mod walks;
