@@ -2,6 +2,7 @@
 //! laws over them. The search itself stands in a crate above.
 #![tactic(auto)]
 
+pub mod laws;
 mod outcome;
 
 pub use outcome::Outcome;
