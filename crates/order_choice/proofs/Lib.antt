@@ -1,0 +1,12 @@
+pub mod Candidates
+pub mod Chosen
+pub mod Best
+pub mod Forcing
+pub mod Branches
+pub mod Switches
+pub mod Lines
+pub mod Expanding
+pub mod Written
+pub mod Printable
+pub mod Exits
+pub mod Bounds

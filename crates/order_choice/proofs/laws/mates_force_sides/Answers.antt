@@ -1,0 +1,5 @@
+use Rattle.order_choice.proofs.Forcing.{mates_force}
+use Rattle.order_choice.proofs.laws.mates_force_sides.Goals as goal
+
+pub returns : goal.returns
+returns c = mates_force

@@ -1,0 +1,4 @@
+pub mod Candidates
+pub mod Choices
+pub mod Searching
+pub mod Writing

@@ -1,0 +1,8 @@
+//! The choice of an order after a delay, and how far a search for a cheaper one has come: what the words mean, and the
+//! laws over them. The search itself stands in a crate above.
+#![tactic(auto)]
+
+pub mod laws;
+mod outcome;
+
+pub use outcome::Outcome;
