@@ -26,12 +26,14 @@ use Rattle.fleet_base.specs.Groups.{AreMates}
 use Rattle.cert_tree.specs.GroupRules.{KeepsGroups}
 use Rattle.order_choice.specs.Candidates.{IsNoCheaper}
 use Rattle.order_choice.specs.Choices.{IsWeighed, IsOptimalChoice, IsSpentChoice}
-use Rattle.order_choice.specs.Searching.{Forcing, MadeNode, EachOnLine, IsRelaxed, StandsSo, IsMadeRight, IsMadeDear, AreParted, expanded_in}
-use Rattle.order_choice.specs.Searching.Stand.{Round, Waiting, Expanded}
+use Rattle.order_choice.specs.declared.made.Forcing.{Forcing}
+use Rattle.order_choice.specs.declared.made.MadeNode.{MadeNode}
+use Rattle.order_choice.specs.Searching.{EachOnLine, IsRelaxed, StandsSo, IsMadeRight, IsMadeDear, AreParted, expanded_in}
+use Rattle.order_choice.specs.declared.made.Stand.TheVariants.{Round, Waiting, Expanded}
 use Rattle.order_choice.specs.Writing.{behind, forced_nodes, IsWrittenOf}
 use Rattle.order_choice.specs.Writing.IsWrittenOf.{ended, as_cyclic, as_open, as_bound, as_cut, as_branch}
 use Rattle.order_choice.proofs.Candidates.{below_has_conflict}
-use Rattle.order_choice.proofs.Forcing.{mates_force, group_left, new_group}
+use Rattle.order_choice.proofs.ForcedSides.{mates_force, group_left, new_group}
 use Rattle.order_choice.proofs.Written.{written_meets, written_ends, written_branches, forced_branches}
 
 module _ (g : Graph) (x : FleetState) (state : IsFleetState g x) where

@@ -11,8 +11,11 @@ use Rattle.fleet_base.proofs.Costs.{sum_le}
 use Rattle.cert_tree.specs.Decisions.{Decision, order_on, IsFree}
 use Rattle.cert_tree.specs.Trees.{branch_to, force_to}
 use Rattle.order_choice.specs.Candidates.{IsInConflict}
-use Rattle.order_choice.specs.Searching.{Forcing, Stand, MadeNode, forced_on, AreForced, IsRelaxed, IsMadeRight, IsMadeDear, IsParted, AreParted, IsAbove, AreAbove, IsBest, IsSearched, IsMade, IsNew, ways_beyond, ways_past, expanded_of}
-use Rattle.order_choice.specs.Searching.Stand.{Round, Waiting, Expanded}
+use Rattle.order_choice.specs.declared.made.Forcing.{Forcing}
+use Rattle.order_choice.specs.declared.made.Stand.{Stand}
+use Rattle.order_choice.specs.declared.made.MadeNode.{MadeNode}
+use Rattle.order_choice.specs.Searching.{forced_on, AreForced, IsRelaxed, IsMadeRight, IsMadeDear, IsParted, AreParted, IsAbove, AreAbove, IsBest, IsSearched, IsMade, IsNew, ways_beyond, ways_past, expanded_of}
+use Rattle.order_choice.specs.declared.made.Stand.TheVariants.{Round, Waiting, Expanded}
 use Rattle.order_choice.specs.Searching.IsNew.{new_round, new_waiting}
 use Rattle.longest_path.specs.Extending.{Extends}
 use Rattle.longest_path.proofs.Extending.{obeys_fewer}

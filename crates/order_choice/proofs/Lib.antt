@@ -1,7 +1,7 @@
 pub mod Candidates
 pub mod Chosen
 pub mod Best
-pub mod Forcing
+pub mod ForcedSides
 pub mod Branches
 pub mod Switches
 pub mod Lines

@@ -7,8 +7,11 @@ use Rattle.fleet_base.specs.State.{FleetState}
 use Rattle.cert_tree.specs.Decisions.{Decision}
 use Rattle.cert_tree.specs.Trees.{branch_to}
 use Rattle.order_choice.specs.Candidates.{IsNoCheaper}
-use Rattle.order_choice.specs.Searching.{Forcing, Stand, MadeNode, IsNew, forced_on, ways_beyond, ways_past, EachOnLine, IsMadeDear, IsWeighedAs, expanded_in}
-use Rattle.order_choice.specs.Searching.Stand.{Round, Waiting, Expanded}
+use Rattle.order_choice.specs.declared.made.Forcing.{Forcing}
+use Rattle.order_choice.specs.declared.made.Stand.{Stand}
+use Rattle.order_choice.specs.declared.made.MadeNode.{MadeNode}
+use Rattle.order_choice.specs.Searching.{IsNew, forced_on, ways_beyond, ways_past, EachOnLine, IsMadeDear, IsWeighedAs, expanded_in}
+use Rattle.order_choice.specs.declared.made.Stand.TheVariants.{Round, Waiting, Expanded}
 use Rattle.order_choice.specs.Searching.IsNew.{new_round, new_waiting}
 
 abbrev pub node : List Forcing → Stand → MadeNode

@@ -14,7 +14,8 @@ use Rattle.cert_tree.specs.declared.node.Node.{Node}
 use Rattle.cert_tree.specs.CertText.{IsWritten}
 use Rattle.cert_tree.specs.Decisions.{Decision, order_on}
 use Rattle.cert_tree.specs.Preorder.{ways_after, EachListed}
-use Rattle.order_choice.specs.Searching.{MadeNode, EachOnLine, IsMadeRight, IsMadeDear}
+use Rattle.order_choice.specs.declared.made.MadeNode.{MadeNode}
+use Rattle.order_choice.specs.Searching.{EachOnLine, IsMadeRight, IsMadeDear}
 use Rattle.order_choice.specs.Writing.{IsWrittenOf}
 use Rattle.order_choice.proofs.Written.{written_meets}
 

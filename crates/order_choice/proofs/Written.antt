@@ -13,8 +13,11 @@ use Rattle.cert_tree.specs.Trees.{branch_to, force_to, IsBound}
 use Rattle.cert_tree.specs.Preorder.{ways_left, branches_in, EachListed}
 use Rattle.fleet_base.specs.Groups.{AreMates}
 use Rattle.order_choice.specs.Candidates.{IsNoCheaper}
-use Rattle.order_choice.specs.Searching.{Forcing, Stand, MadeNode, forced_on, ways_beyond, EachOnLine, AreForced, IsRelaxed, StandsSo, IsMadeRight, IsMadeDear, expanded_in}
-use Rattle.order_choice.specs.Searching.Stand.{Round, Waiting, Expanded}
+use Rattle.order_choice.specs.declared.made.Forcing.{Forcing}
+use Rattle.order_choice.specs.declared.made.Stand.{Stand}
+use Rattle.order_choice.specs.declared.made.MadeNode.{MadeNode}
+use Rattle.order_choice.specs.Searching.{forced_on, ways_beyond, EachOnLine, AreForced, IsRelaxed, StandsSo, IsMadeRight, IsMadeDear, expanded_in}
+use Rattle.order_choice.specs.declared.made.Stand.TheVariants.{Round, Waiting, Expanded}
 use Rattle.order_choice.specs.Writing.{with_children, behind, forced_nodes, IsWrittenOf}
 use Rattle.order_choice.specs.Writing.IsWrittenOf.{ended, as_cyclic, as_open, as_bound, as_cut, as_branch}
 

@@ -11,24 +11,11 @@ use Rattle.cert_tree.specs.Decisions.{Decision, order_on, IsFree}
 use Rattle.cert_tree.specs.Orders.{KeepsClosed}
 use Rattle.cert_tree.specs.Trees.{branch_to, force_to}
 use Rattle.fleet_base.specs.Groups.{AreMates}
+use Rattle.order_choice.specs.declared.made.Forcing.{Forcing}
+use Rattle.order_choice.specs.declared.made.Stand.{Stand}
+use Rattle.order_choice.specs.declared.made.Stand.TheVariants.{Round, Waiting, Expanded}
+use Rattle.order_choice.specs.declared.made.MadeNode.{MadeNode}
 use Rattle.order_choice.specs.Candidates.{IsNoCheaper, IsInConflict}
-
--- a pair that got the side of its mate
-pub record Forcing : Type 0 where
-  pub pair : PairId
-  pub side : Side
-  pub mate : PairId
-
--- how a node stands: its decisions have a cycle, it is left with its relaxed cost, or it was expanded on a pair
-pub data Stand : Type 0 where
-  Round : (cycle : List PairId) → Stand
-  Waiting : (cost : ℕ) → Stand
-  Expanded : (cost : ℕ) (pair : PairId) → Stand
-
--- a node: what was forced in it, in that order, and how it stands
-pub record MadeNode : Type 0 where
-  pub forced : List Forcing
-  pub stand : Stand
 
 -- the decisions after forcings
 abbrev pub forced_on : List Forcing → List Decision → List Decision

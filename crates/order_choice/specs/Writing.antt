@@ -10,8 +10,11 @@ use Rattle.cert_tree.specs.declared.node.Node.TheVariants.{Branch, Force, Cyclic
 use Rattle.cert_tree.specs.CertText.{IsWritten}
 use Rattle.cert_tree.specs.Decisions.{Decision}
 use Rattle.cert_tree.specs.Trees.{branch_to, IsBound}
-use Rattle.order_choice.specs.Searching.{Forcing, Stand, MadeNode, forced_on}
-use Rattle.order_choice.specs.Searching.Stand.{Round, Waiting, Expanded}
+use Rattle.order_choice.specs.declared.made.Forcing.{Forcing}
+use Rattle.order_choice.specs.declared.made.Stand.{Stand}
+use Rattle.order_choice.specs.declared.made.Stand.TheVariants.{Round, Waiting, Expanded}
+use Rattle.order_choice.specs.declared.made.MadeNode.{MadeNode}
+use Rattle.order_choice.specs.Searching.{forced_on}
 
 -- so many trees, and those of a node's children
 abbrev pub with_children : Stand → ℕ → ℕ

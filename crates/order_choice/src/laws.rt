@@ -22,8 +22,10 @@ ghost use Rattle.order_choice.specs.declared.outcome.Outcome.{Outcome};
 ghost use Rattle.order_choice.specs.declared.outcome.Outcome.TheVariants.{Optimal, Spent};
 ghost use Rattle.order_choice.specs.Candidates.{IsCandidate, IsNoCheaper, IsInConflict};
 ghost use Rattle.order_choice.specs.Choices.{IsChosen, Choice, AreSwitches};
-ghost use Rattle.order_choice.specs.Searching.{Forcing, MadeNode, IsForcedOut, IsSearched, IsMade, IsBest, AreAbove, forced_on, ways_past};
-ghost use Rattle.order_choice.specs.Searching.Stand.{Waiting, Expanded};
+ghost use Rattle.order_choice.specs.declared.made.Forcing.{Forcing};
+ghost use Rattle.order_choice.specs.declared.made.MadeNode.{MadeNode};
+ghost use Rattle.order_choice.specs.Searching.{IsForcedOut, IsSearched, IsMade, IsBest, AreAbove, forced_on, ways_past};
+ghost use Rattle.order_choice.specs.declared.made.Stand.TheVariants.{Waiting, Expanded};
 ghost use Rattle.order_choice.specs.Writing.{IsWrittenOf, paths_from};
 
 /// The side of a mate that has one is forced: with the other side the mate, then the pair, are a cycle.

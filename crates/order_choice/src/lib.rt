@@ -3,6 +3,8 @@
 #![tactic(auto)]
 
 pub mod laws;
+mod made;
 mod outcome;
 
+pub use made::{Forcing, MadeNode, Stand};
 pub use outcome::Outcome;

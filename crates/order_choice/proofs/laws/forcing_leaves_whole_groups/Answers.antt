@@ -1,4 +1,4 @@
-use Rattle.order_choice.proofs.Forcing.{group_left, new_group}
+use Rattle.order_choice.proofs.ForcedSides.{group_left, new_group}
 use Rattle.order_choice.proofs.laws.forcing_leaves_whole_groups.Goals as goal
 
 pub returns : goal.returns

@@ -1,4 +1,4 @@
-use Rattle.order_choice.proofs.Forcing.{mates_force}
+use Rattle.order_choice.proofs.ForcedSides.{mates_force}
 use Rattle.order_choice.proofs.laws.mates_force_sides.Goals as goal
 
 pub returns : goal.returns
