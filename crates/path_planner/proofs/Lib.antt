@@ -3,6 +3,7 @@ pub mod Once
 pub mod Found
 pub mod Leaving
 pub mod Around
+pub mod Back
 pub mod Spread
 pub mod Retrace
 pub mod TableLaws

@@ -4,8 +4,9 @@ use Rattle.std.specs.declared.alloc.Global.{Global}
 use Rattle.fleet_base.specs.declared.geometry.Cell.{Cell}
 use Rattle.fleet_base.specs.declared.lists.Items.{Items}
 use Rattle.fleet_base.specs.Lists.{row_of}
-use Rattle.fleet_base.specs.Grid.{OccupancyGrid, is_free}
+use Rattle.fleet_base.specs.Grid.{OccupancyGrid, is_free, distance}
 use Rattle.map_text.specs.declared.scenario.Task.{Task}
+use Rattle.path_planner.specs.declared.forward.Aim.{Aim}
 use Rattle.path_planner.specs.Planning.{IsCandidate, IsChosen, IsBefore}
 use Rattle.plan_steps.specs.Steps.{path_at, IsClear, MayStep}
 use Rattle.path_planner.specs.Layers.{IsClearFrom, IsReached, LeadsTo, IsArrival, IsFirstArrival, IsLeastWay}
@@ -64,16 +65,20 @@ pub record IsFirstLayer (grid : OccupancyGrid) (fixed : List (List Cell)) (start
   pub reached : (c : Cell) → Contains layer c → IsReached grid fixed start 0 c
   pub whole : (c : Cell) → IsReached grid fixed start 0 c → Contains layer c
 
--- the cells into which a step leads from a cell came to those before
-pub record StepsOut (grid : OccupancyGrid) (fixed : List (List Cell)) (t : ℕ) (from : Cell) (old new : List Cell) : Type 0 where
+-- from the cell at the tick the goal is near enough to be reached in time, were nothing in the way
+abbrev pub IsInReach : Aim → ℕ → Cell → Type 0
+IsInReach aim t c = t + distance c aim.goal ≤ aim.last
+
+-- cells into which a step leads from a cell came to those before, and all of them that are in reach
+pub record StepsOut (grid : OccupancyGrid) (fixed : List (List Cell)) (t : ℕ) (from : Cell) (aim : Aim) (old new : List Cell) : Type 0 where
   pub kept : (c : Cell) → Contains old c → Contains new c
   pub stepped : (c : Cell) → Contains new c → Contains old c ⊎ MayStep grid fixed t from c
-  pub whole : (c : Cell) → MayStep grid fixed t from c → Contains new c
+  pub whole : (c : Cell) → MayStep grid fixed t from c → IsInReach aim (t + 1) c → Contains new c
 
--- the cells into which a step leads from one of a layer
-pub record IsNextLayer (grid : OccupancyGrid) (fixed : List (List Cell)) (t : ℕ) (layer next : List Cell) : Type 0 where
+-- cells into which a step leads from one of a layer, and all of them that are in reach
+pub record IsNextLayer (grid : OccupancyGrid) (fixed : List (List Cell)) (t : ℕ) (aim : Aim) (layer next : List Cell) : Type 0 where
   pub stepped : (d : Cell) → Contains next d → (c : Cell) × Contains layer c × MayStep grid fixed t c d
-  pub whole : (c d : Cell) → Contains layer c → MayStep grid fixed t c d → Contains next d
+  pub whole : (c d : Cell) → Contains layer c → MayStep grid fixed t c d → IsInReach aim (t + 1) d → Contains next d
 
 -- a step leads from the cell into one of the next layer
 abbrev pub LeadsInto : OccupancyGrid → List (List Cell) → ℕ → Cell → List Cell → Type 0

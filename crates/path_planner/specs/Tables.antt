@@ -1,10 +1,10 @@
 -- Tables that have a number for each cell.
-use Rattle.std.specs.Prelude.{ℕ, ◌≡◌, ◌+◌, ◌<◌, List, length, slice_index_or, IsTrue, Contains}
+use Rattle.std.specs.Prelude.{ℕ, ◌≡◌, ◌<◌, List, length, slice_index_or, IsTrue, Contains}
 use Rattle.fleet_base.specs.declared.geometry.Cell.{Cell}
 use Rattle.fleet_base.specs.Lists.{row_of}
 use Rattle.fleet_base.specs.Grid.{OccupancyGrid, is_free}
 use Rattle.fleet_base.specs.Plan.{cell_at, no_cell}
-use Rattle.path_planner.specs.declared.steps.Traffic.{Traffic}
+use Rattle.path_planner.specs.declared.tables.Tables.{Tables}
 
 -- the number of a cell, and 0 where the table has no place for it
 abbrev pub value_at : List (List ℕ) → Cell → ℕ
@@ -31,12 +31,7 @@ TellsRobots fixed t table = (j : ℕ) → j < length fixed → value_at table (c
 abbrev pub TellsPlaces : List Cell → List (List ℕ) → Type 0
 TellsPlaces cells table = (c : Cell) → Contains cells c → (value_at table c < length cells) × (slice_index_or cells (value_at table c) no_cell ≡ c)
 
--- the tables of fixed robots have places for each free cell
-pub record CoverGrid (grid : OccupancyGrid) (traffic : Traffic) : Type 0 where
-  pub here : Covers grid traffic.here
-  pub after : Covers grid traffic.after
-
--- the tables tell where fixed robots are at the tick and at the next one
-pub record AreAt (fixed : List (List Cell)) (t : ℕ) (traffic : Traffic) : Type 0 where
-  pub here : TellsRobots fixed t traffic.here
-  pub after : TellsRobots fixed (t + 1) traffic.after
+-- both tables have places for each free cell
+pub record CoverGrid (grid : OccupancyGrid) (tables : Tables) : Type 0 where
+  pub traffic : Covers grid tables.traffic
+  pub places : Covers grid tables.places

@@ -4,13 +4,13 @@ ghost use Rattle.fleet_base.specs.Grid.{is_free};
 ghost use Rattle.fleet_base.specs.Plan.{IsSound};
 ghost use Rattle.plan_steps.specs.Steps.{IsClear, MayStep};
 ghost use Rattle.path_planner.specs.Layers.{LeadsTo, IsReached};
-ghost use Rattle.path_planner.specs.Tables.{AreAt, CoverGrid, Covers, TellsPlaces};
+ghost use Rattle.path_planner.specs.Tables.{CoverGrid, Covers, TellsPlaces, TellsRobots};
 ghost use Rattle.path_planner.specs.Search.{AreInTime, AreStood, AreWays, HasWays, IsKept, IsLeastInto, IsLeastPath, IsLesser, LeadsInto};
 
 use crate::cells::{around, is_before, is_in};
 use crate::forward::Layers;
-use crate::steps::{Traffic, may_step, turn_to};
-use crate::tables::{CellTable, is_listed, put_places};
+use crate::steps::{may_step, turn_to};
+use crate::tables::{CellTable, Tables, is_listed, put_places};
 use fleet_base::{Cell, Grid, Items, Memory, RawPlan};
 use map_text::Task;
 use std::alloc::Global;
@@ -20,8 +20,7 @@ pub(crate) fn keep_ways(
     alloc: Global,
     grid: &Grid,
     fixed: &RawPlan,
-    traffic: &mut Traffic,
-    places: &mut CellTable,
+    tables: &mut Tables,
     task: Task,
     layers: &mut Layers,
 ) -> Result<(), Memory>
@@ -30,9 +29,8 @@ pub(crate) fn keep_ways(
     requires ticks { length layers.old ≤ 4097 }
     requires ways { HasWays grid.now fixed.now task layers.old }
     requires goal { IsReached grid.now fixed.now task.start (length layers.old - 1) task.goal }
-    requires traffic { CoverGrid grid.now traffic.old }
-    requires places { Covers grid.now places.old }
-    ensures traffic { CoverGrid grid.now traffic.new }
+    requires tables { CoverGrid grid.now tables.old }
+    ensures tables { CoverGrid grid.now tables.new }
     ensures ticks { OnOk result (length layers.new ≡ length layers.old) }
     ensures ways { OnOk result (AreWays grid.now fixed.now task layers.new) }
 {
@@ -43,8 +41,7 @@ pub(crate) fn keep_ways(
             alloc,
             grid,
             fixed,
-            traffic,
-            places,
+            tables,
             tick,
             layers.row(tick),
             layers.row(tick + 1),
@@ -59,8 +56,7 @@ fn keep_layer(
     alloc: Global,
     grid: &Grid,
     fixed: &RawPlan,
-    traffic: &mut Traffic,
-    places: &mut CellTable,
+    tables: &mut Tables,
     tick: usize,
     layer: &[Cell],
     next: &[Cell],
@@ -70,17 +66,23 @@ fn keep_layer(
     requires tick { tick ≤ 4096 }
     requires stood { AreStood grid.now fixed.now tick layer.now }
     requires next { (c : Cell) → Contains next.now c → IsTrue (is_free grid.now c) }
-    requires traffic { CoverGrid grid.now traffic.old }
-    requires places { Covers grid.now places.old }
+    requires tables { CoverGrid grid.now tables.old }
     ensures kept { IfOk result (IsKept grid.now fixed.now tick layer.now next.now) }
-    ensures traffic { CoverGrid grid.now traffic.new }
-    ensures places { Covers grid.now places.new }
+    ensures tables { CoverGrid grid.now tables.new }
 {
-    turn_to(grid, fixed, tick, traffic);
-    put_places(grid, next, places);
+    turn_to(grid, fixed, tick, &mut tables.traffic);
+    put_places(grid, next, &mut tables.places);
     let mut kept = Items::new(alloc);
     for from in layer {
-        if leads_into(grid, fixed, traffic, tick, *from, next, places) {
+        if leads_into(
+            grid,
+            fixed,
+            &tables.traffic,
+            tick,
+            *from,
+            next,
+            &tables.places,
+        ) {
             kept.push(*from)?;
         }
     }
@@ -91,7 +93,7 @@ fn keep_layer(
 fn leads_into(
     grid: &Grid,
     fixed: &RawPlan,
-    traffic: &Traffic,
+    traffic: &CellTable,
     tick: usize,
     from: Cell,
     next: &[Cell],
@@ -102,7 +104,7 @@ fn leads_into(
     requires tick { tick ≤ 4096 }
     requires free { IsTrue (is_free grid.now from) }
     requires clear { IsClear fixed.now tick from }
-    requires at { AreAt fixed.now tick traffic.now }
+    requires robots { TellsRobots fixed.now (tick + 1) traffic.now }
     requires places { TellsPlaces next.now places.now }
     ensures yes { result ≡ true → LeadsInto grid.now fixed.now tick from next.now }
     ensures no { result ≡ false → ¬ LeadsInto grid.now fixed.now tick from next.now }
@@ -120,7 +122,7 @@ pub(crate) fn least_path(
     alloc: Global,
     grid: &Grid,
     fixed: &RawPlan,
-    traffic: &mut Traffic,
+    traffic: &mut CellTable,
     task: Task,
     layers: &Layers,
 ) -> Result<Vec<Cell>, Memory>
@@ -130,8 +132,9 @@ pub(crate) fn least_path(
     requires ways { AreWays grid.now fixed.now task layers.now }
     requires start { LeadsTo grid.now fixed.now task.goal (length layers.now - 1) 0 task.start }
     requires stood { IsReached grid.now fixed.now task.start 0 task.start }
-    requires traffic { CoverGrid grid.now traffic.old }
-    ensures { IfOk result (λ path. IsLeastPath grid.now fixed.now task (length layers.now) path.items) }
+    requires traffic { Covers grid.now traffic.old }
+    ensures path { IfOk result (λ path. IsLeastPath grid.now fixed.now task (length layers.now) path.items) }
+    ensures traffic { Covers grid.now traffic.new }
 {
     let mut path = Vec::new(alloc);
     push_cell(&mut path, task.start)?;
@@ -158,7 +161,7 @@ fn push_cell(path: &mut Vec<Cell>, cell: Cell) -> Result<(), Memory>
 fn least_step(
     grid: &Grid,
     fixed: &RawPlan,
-    traffic: &Traffic,
+    traffic: &CellTable,
     tick: usize,
     from: Cell,
     next: &[Cell],
@@ -169,7 +172,7 @@ fn least_step(
     requires free { IsTrue (is_free grid.now from) }
     requires clear { IsClear fixed.now tick from }
     requires leads { LeadsInto grid.now fixed.now tick from next.now }
-    requires at { AreAt fixed.now tick traffic.now }
+    requires robots { TellsRobots fixed.now (tick + 1) traffic.now }
     ensures { IsLeastInto grid.now fixed.now tick from next.now result }
 {
     let mut least = None;

@@ -36,6 +36,13 @@ pub(crate) fn around(grid: &Grid, at: Cell) -> [Cell; 5]
     ]
 }
 
+/// How many steps two cells are apart.
+pub(crate) fn steps_apart(a: Cell, b: Cell) -> u64
+    ensures { result ≡ distance a b }
+{
+    u64::from(a.row.abs_diff(b.row)) + u64::from(a.col.abs_diff(b.col))
+}
+
 /// Whether a cell is one of these.
 pub(crate) fn is_in(cells: &[Cell], at: Cell) -> bool
     ensures yes { result ≡ true → Contains cells.now at }

@@ -1,14 +1,14 @@
-ghost use Rattle.std.specs.Prelude.{ℕ, ◌≡◌, ◌≤◌, ◌↔◌, IfOk, OnOk, length, IsTrue, Contains};
+ghost use Rattle.std.specs.Prelude.{ℕ, ◌≡◌, ◌+◌, ◌≤◌, ◌↔◌, true, false, IfOk, OnOk, length, IsTrue, Contains};
 ghost use Rattle.fleet_base.specs.Grid.{is_free};
 ghost use Rattle.fleet_base.specs.Plan.{IsSound};
 ghost use Rattle.plan_steps.specs.Steps.{IsClear};
 ghost use Rattle.path_planner.specs.Layers.{IsClearFrom};
-ghost use Rattle.path_planner.specs.Tables.{AreAt, CoverGrid, Covers, TellsPlaces};
-ghost use Rattle.path_planner.specs.Search.{AreInTime, AreLayers, AreStood, IsFirstLayer, IsNextLayer, StepsOut};
+ghost use Rattle.path_planner.specs.Tables.{CoverGrid, Covers, TellsPlaces, TellsRobots};
+ghost use Rattle.path_planner.specs.Search.{AreInTime, AreLayers, AreStood, IsFirstLayer, IsInReach, IsNextLayer, StepsOut};
 
-use crate::cells::{around, is_in};
-use crate::steps::{Traffic, is_clear, may_step, turn_to};
-use crate::tables::{CellTable, is_listed, put};
+use crate::cells::{around, is_in, steps_apart};
+use crate::steps::{is_clear, may_step, turn_to};
+use crate::tables::{CellTable, Tables, is_listed, put};
 use fleet_base::{Cell, Grid, Items, Memory, RawPlan};
 use map_text::Task;
 use std::alloc::Global;
@@ -16,14 +16,21 @@ use std::alloc::Global;
 /// Cells by ticks.
 pub(crate) type Layers = Items<Items<Cell>>;
 
-/// The layers of cells that are reached tick by tick, up to the first tick at which the robot may arrive. Cells from
-/// which the goal cannot be reached by then may be missing.
-pub(crate) fn layers_to_arrival(
+/// The goal of a robot, and the last tick at which it may arrive.
+#[derive(Clone, Copy)]
+pub(crate) struct Aim {
+    pub(crate) goal: Cell,
+    pub(crate) last: u32,
+}
+
+/// The layers of cells that are reached tick by tick, up to the first tick at which the robot may arrive, or none where it
+/// may not by the horizon. They are sought for a last tick that grows, since an early one leaves few cells in reach. It
+/// grows by more and more, so that all of them together take a few times the ticks of the last one.
+pub(crate) fn first_layers(
     alloc: Global,
     grid: &Grid,
     fixed: &RawPlan,
-    traffic: &mut Traffic,
-    places: &mut CellTable,
+    tables: &mut Tables,
     task: Task,
     from: u32,
     horizon: u32,
@@ -32,20 +39,61 @@ pub(crate) fn layers_to_arrival(
     requires sound { IsSound grid.now fixed.now }
     requires horizon { horizon ≤ 4096 }
     requires from { (t : ℕ) → IsClearFrom fixed.now t task.goal ↔ (from ≤ t) }
-    requires traffic { CoverGrid grid.now traffic.old }
-    requires places { Covers grid.now places.old }
+    requires tables { CoverGrid grid.now tables.old }
     ensures layers { IfOk result (AreLayers grid.now fixed.now task horizon) }
-    ensures traffic { CoverGrid grid.now traffic.new }
-    ensures places { Covers grid.now places.new }
+    ensures tables { CoverGrid grid.now tables.new }
 {
+    let near = least_last(task, from, horizon);
+    let mut slack = 0;
+    while near + slack < horizon {
+        let last = near + slack;
+        if let Some(layers) = layers_to_arrival(alloc, grid, fixed, tables, task, from, last)? {
+            return Ok(Some(layers));
+        }
+        slack = 3 * slack + near / 16 + 8;
+    }
+    layers_to_arrival(alloc, grid, fixed, tables, task, from, horizon)
+}
+
+/// The least last tick for which the goal may be in reach of the start, and free for good; the horizon, where it is later.
+fn least_last(task: Task, from: u32, horizon: u32) -> u32
+    ensures { result ≤ horizon }
+{
+    let apart = steps_apart(task.start, task.goal).min(u64::from(horizon));
+    (apart as u32).max(from).min(horizon)
+}
+
+/// The layers of cells that are reached tick by tick, up to the first tick at which the robot may arrive. Cells from
+/// which the goal cannot be reached by the last tick may be missing.
+fn layers_to_arrival(
+    alloc: Global,
+    grid: &Grid,
+    fixed: &RawPlan,
+    tables: &mut Tables,
+    task: Task,
+    from: u32,
+    last: u32,
+) -> Result<Option<Layers>, Memory>
+    requires paths { AreInTime 4096 fixed.now }
+    requires sound { IsSound grid.now fixed.now }
+    requires last { last ≤ 4096 }
+    requires from { (t : ℕ) → IsClearFrom fixed.now t task.goal ↔ (from ≤ t) }
+    requires tables { CoverGrid grid.now tables.old }
+    ensures layers { IfOk result (AreLayers grid.now fixed.now task last) }
+    ensures tables { CoverGrid grid.now tables.new }
+{
+    let aim = Aim {
+        goal: task.goal,
+        last,
+    };
     let mut layers = Layers::new(alloc);
     layers.push(first_layer(alloc, grid, fixed, task.start)?)?;
-    for tick in 0..horizon + 1 {
+    for tick in 0..last + 1 {
         let layer = layers.row(tick as usize);
         if tick >= from && is_in(layer, task.goal) {
             return Ok(Some(layers));
         }
-        let next = next_layer(alloc, grid, fixed, traffic, places, tick as usize, layer)?;
+        let next = next_layer(alloc, grid, fixed, tables, tick as usize, aim, layer)?;
         layers.push(next)?;
     }
     Ok(None)
@@ -68,41 +116,49 @@ fn first_layer(
     Ok(layer)
 }
 
-/// The cells into which a step leads from one of a layer.
+/// The cells into which a step leads from one of a layer, and from which the goal is in reach.
 fn next_layer(
     alloc: Global,
     grid: &Grid,
     fixed: &RawPlan,
-    traffic: &mut Traffic,
-    places: &mut CellTable,
+    tables: &mut Tables,
     tick: usize,
+    aim: Aim,
     layer: &[Cell],
 ) -> Result<Items<Cell>, Memory>
     requires paths { AreInTime 4096 fixed.now }
     requires sound { IsSound grid.now fixed.now }
     requires tick { tick ≤ 4096 }
     requires stood { AreStood grid.now fixed.now tick layer.now }
-    requires traffic { CoverGrid grid.now traffic.old }
-    requires places { Covers grid.now places.old }
-    ensures layer { IfOk result (IsNextLayer grid.now fixed.now tick layer.now) }
-    ensures traffic { CoverGrid grid.now traffic.new }
-    ensures places { Covers grid.now places.new }
+    requires tables { CoverGrid grid.now tables.old }
+    ensures layer { IfOk result (IsNextLayer grid.now fixed.now tick aim layer.now) }
+    ensures tables { CoverGrid grid.now tables.new }
 {
-    turn_to(grid, fixed, tick, traffic);
+    turn_to(grid, fixed, tick, &mut tables.traffic);
     let mut next = Items::new(alloc);
     for from in layer {
-        step_out(grid, fixed, traffic, tick, *from, places, &mut next)?;
+        step_out(
+            grid,
+            fixed,
+            &tables.traffic,
+            tick,
+            *from,
+            aim,
+            &mut tables.places,
+            &mut next,
+        )?;
     }
     Ok(next)
 }
 
-/// Adds the cells into which a step leads from a cell, where they are missing.
+/// Adds the cells into which a step leads from a cell, and from which the goal is in reach, where they are missing.
 fn step_out(
     grid: &Grid,
     fixed: &RawPlan,
-    traffic: &Traffic,
+    traffic: &CellTable,
     tick: usize,
     from: Cell,
+    aim: Aim,
     places: &mut CellTable,
     next: &mut Items<Cell>,
 ) -> Result<(), Memory>
@@ -111,15 +167,16 @@ fn step_out(
     requires tick { tick ≤ 4096 }
     requires free { IsTrue (is_free grid.now from) }
     requires clear { IsClear fixed.now tick from }
-    requires at { AreAt fixed.now tick traffic.now }
+    requires robots { TellsRobots fixed.now (tick + 1) traffic.now }
     requires covers { Covers grid.now places.old }
     requires places { TellsPlaces next.old places.old }
-    ensures steps { OnOk result (StepsOut grid.now fixed.now tick from next.old next.new) }
+    ensures steps { OnOk result (StepsOut grid.now fixed.now tick from aim next.old next.new) }
     ensures covers { Covers grid.now places.new }
     ensures places { OnOk result (TellsPlaces next.new places.new) }
 {
     for to in around(grid, from) {
-        if !is_listed(next.as_slice(), places, to)
+        if is_in_reach(to, tick + 1, aim)
+            && !is_listed(next.as_slice(), places, to)
             && may_step(grid, fixed, traffic, tick, from, to)
         {
             put(places, to, next.as_slice().len());
@@ -127,4 +184,13 @@ fn step_out(
         }
     }
     Ok(())
+}
+
+/// Whether the goal is near enough to be reached in time, were nothing in the way.
+fn is_in_reach(at: Cell, tick: usize, aim: Aim) -> bool
+    requires { tick ≤ 4097 }
+    ensures yes { result ≡ true → IsInReach aim tick at }
+    ensures no { result ≡ false → ¬ IsInReach aim tick at }
+{
+    tick as u64 + steps_apart(at, aim.goal) <= u64::from(aim.last)
 }

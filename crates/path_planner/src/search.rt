@@ -1,11 +1,11 @@
 ghost use Rattle.std.specs.Prelude.{ℕ, ◌≡◌, ◌≤◌, ◌↔◌, ◌-◌, max, IfOk, OnOk, length};
 ghost use Rattle.fleet_base.specs.Plan.{IsSound};
+ghost use Rattle.path_planner.specs.Tables.{CoverGrid};
 ghost use Rattle.path_planner.specs.Search.{AreInTime, IsBestPath, IsClearTick, IsLeaveTick};
 
 use crate::backward::{keep_ways, least_path};
-use crate::forward::layers_to_arrival;
-use crate::steps::Traffic;
-use crate::tables::new_table;
+use crate::forward::first_layers;
+use crate::tables::Tables;
 use fleet_base::{Cell, Grid, Memory, RawPlan};
 use map_text::Task;
 use std::alloc::Global;
@@ -15,6 +15,7 @@ pub(crate) fn best_path(
     alloc: Global,
     grid: &Grid,
     fixed: &RawPlan,
+    tables: &mut Tables,
     task: Task,
     horizon: u32,
 ) -> Result<Option<Vec<Cell>>, Memory>
@@ -22,39 +23,19 @@ pub(crate) fn best_path(
     requires paths { AreInTime horizon fixed.now }
     requires sound { IsSound grid.now fixed.now }
     requires horizon { horizon ≤ 4096 }
-    ensures { IfOk result (IsBestPath grid.now horizon fixed.now task) }
+    requires tables { CoverGrid grid.now tables.old }
+    ensures path { IfOk result (IsBestPath grid.now horizon fixed.now task) }
+    ensures tables { CoverGrid grid.now tables.new }
 {
     let Some(from) = clear_tick(fixed, task.goal) else {
         return Ok(None);
     };
-    let mut traffic = Traffic {
-        here: new_table(alloc, grid)?,
-        after: new_table(alloc, grid)?,
-    };
-    let mut places = new_table(alloc, grid)?;
-    let found = layers_to_arrival(
-        alloc,
-        grid,
-        fixed,
-        &mut traffic,
-        &mut places,
-        task,
-        from,
-        horizon,
-    )?;
+    let found = first_layers(alloc, grid, fixed, tables, task, from, horizon)?;
     let Some(mut layers) = found else {
         return Ok(None);
     };
-    keep_ways(
-        alloc,
-        grid,
-        fixed,
-        &mut traffic,
-        &mut places,
-        task,
-        &mut layers,
-    )?;
-    let path = least_path(alloc, grid, fixed, &mut traffic, task, &layers)?;
+    keep_ways(alloc, grid, fixed, tables, task, &mut layers)?;
+    let path = least_path(alloc, grid, fixed, &mut tables.traffic, task, &layers)?;
     Ok(Some(path))
 }
 

@@ -1,45 +1,26 @@
-ghost use Rattle.std.specs.Prelude.{ℕ, ◌≡◌, ◌≢◌, ◌+◌, ◌<◌, ◌≤◌, suc, true, false, length};
+ghost use Rattle.std.specs.Prelude.{ℕ, ◌≡◌, ◌+◌, ◌<◌, ◌≤◌, true, false, length};
 ghost use Rattle.fleet_base.specs.Grid.{distance};
 ghost use Rattle.fleet_base.specs.Plan.{cell_at, IsSound, IsCollisionFree};
 ghost use Rattle.path_planner.specs.Search.{AreInTime};
-ghost use Rattle.plan_steps.specs.Steps.{IsClear, MayStep};
-ghost use Rattle.plan_steps.specs.Traffic.{EndsIn, IsRobotIn};
-ghost use Rattle.path_planner.specs.Tables.{Covers, TellsRobots, CoverGrid, AreAt};
+ghost use Rattle.plan_steps.specs.Steps.{IsClear, IsClosed, MayStep};
+ghost use Rattle.plan_steps.specs.Traffic.{IsRobotIn};
+ghost use Rattle.path_planner.specs.Tables.{Covers, TellsRobots};
 
 use crate::tables::{CellTable, put, value_of};
 use fleet_base::{Cell, Grid, RawPlan};
 
-/// Where the fixed robots are at a tick and at the next one: by cell, the robot that is in it.
-#[derive(Drop)]
-pub(crate) struct Traffic {
-    pub(crate) here: CellTable,
-    pub(crate) after: CellTable,
-}
-
-/// Turns the tables to a tick.
-pub(crate) fn turn_to(grid: &Grid, fixed: &RawPlan, tick: usize, traffic: &mut Traffic)
+/// Writes at the cells of the fixed robots at the tick after this one which robot it is.
+pub(crate) fn turn_to(grid: &Grid, fixed: &RawPlan, tick: usize, traffic: &mut CellTable)
     requires paths { AreInTime 4096 fixed.now }
     requires sound { IsSound grid.now fixed.now }
     requires tick { tick ≤ 4096 }
-    requires covers { CoverGrid grid.now traffic.old }
-    ensures covers { CoverGrid grid.now traffic.new }
-    ensures at { AreAt fixed.now tick traffic.new }
-{
-    put_robots(grid, fixed, tick, &mut traffic.here);
-    put_robots(grid, fixed, tick + 1, &mut traffic.after);
-}
-
-/// Writes at the cells of the fixed robots at a tick which robot it is.
-fn put_robots(grid: &Grid, fixed: &RawPlan, tick: usize, table: &mut CellTable)
-    requires paths { AreInTime 4096 fixed.now }
-    requires sound { IsSound grid.now fixed.now }
-    requires covers { Covers grid.now table.old }
-    ensures covers { Covers grid.now table.new }
-    ensures robots { TellsRobots fixed.now tick table.new }
+    requires covers { Covers grid.now traffic.old }
+    ensures covers { Covers grid.now traffic.new }
+    ensures robots { TellsRobots fixed.now (tick + 1) traffic.new }
 {
     for robot in 0..fixed.robots() {
-        let at = cell_of(fixed, robot, tick);
-        put(table, at, robot);
+        let at = cell_of(fixed, robot, tick + 1);
+        put(traffic, at, robot);
     }
 }
 
@@ -47,7 +28,7 @@ fn put_robots(grid: &Grid, fixed: &RawPlan, tick: usize, table: &mut CellTable)
 pub(crate) fn may_step(
     grid: &Grid,
     fixed: &RawPlan,
-    traffic: &Traffic,
+    traffic: &CellTable,
     tick: usize,
     from: Cell,
     to: Cell,
@@ -55,36 +36,37 @@ pub(crate) fn may_step(
     requires paths { AreInTime 4096 fixed.now }
     requires apart { IsCollisionFree fixed.now }
     requires tick { tick ≤ 4096 }
-    requires at { AreAt fixed.now tick traffic.now }
+    requires robots { TellsRobots fixed.now (tick + 1) traffic.now }
     requires clear { IsClear fixed.now tick from }
     requires near { distance from to ≤ 1 }
     ensures yes { result ≡ true → MayStep grid.now fixed.now tick from to }
     ensures no { result ≡ false → ¬ MayStep grid.now fixed.now tick from to }
 {
-    if !grid.is_free(to) || robot_in(fixed, &traffic.after, tick + 1, to).is_some() {
-        return false;
-    }
-    match robot_in(fixed, &traffic.here, tick, to) {
-        Some(robot) => end_of(fixed, &traffic.here, tick, robot) != from,
-        None => true,
-    }
+    grid.is_free(to)
+        && robot_in(fixed, traffic, tick + 1, to).is_none()
+        && !is_closed(fixed, traffic, tick, to, from)
 }
 
-/// Where the moves end that begin with this robot's, each into the cell from which the next one goes.
-fn end_of(fixed: &RawPlan, here: &CellTable, tick: usize, robot: usize) -> Cell
+/// Whether moves, each into the cell from which the next one goes, lead from a cell to another. They are followed back from
+/// the cell where they end, so that each robot's move is looked at from one cell alone.
+fn is_closed(fixed: &RawPlan, traffic: &CellTable, tick: usize, from: Cell, to: Cell) -> bool
     requires paths { AreInTime 4096 fixed.now }
     requires apart { IsCollisionFree fixed.now }
     requires tick { tick ≤ 4096 }
-    requires robots { TellsRobots fixed.now tick here.now }
-    requires robot { robot < length fixed.now }
-    requires moves { cell_at fixed.now robot (suc tick) ≢ cell_at fixed.now robot tick }
-    ensures { EndsIn fixed.now tick (cell_at fixed.now robot tick) result }
+    requires robots { TellsRobots fixed.now (tick + 1) traffic.now }
+    requires clear { IsClear fixed.now tick to }
+    ensures yes { result ≡ true → IsClosed fixed.now tick from to }
+    ensures no { result ≡ false → ¬ IsClosed fixed.now tick from to }
 {
-    let mut last = robot;
-    while let Some(next) = robot_in(fixed, here, tick, cell_of(fixed, last, tick + 1)) {
-        last = next;
+    let mut entering = robot_in(fixed, traffic, tick + 1, to);
+    while let Some(robot) = entering {
+        let left = cell_of(fixed, robot, tick);
+        if left == from {
+            return true;
+        }
+        entering = robot_in(fixed, traffic, tick + 1, left);
     }
-    cell_of(fixed, last, tick + 1)
+    false
 }
 
 /// Whether no fixed robot is in a cell at a tick.

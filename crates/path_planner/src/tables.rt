@@ -1,7 +1,7 @@
 ghost use Rattle.std.specs.Prelude.{ℕ, ◌≡◌, ◌≢◌, ◌<◌, ◌≤◌, true, false, length, IfOk, IsTrue, Contains};
 ghost use Rattle.fleet_base.specs.declared.geometry.Cell.{Cell};
 ghost use Rattle.fleet_base.specs.Grid.{is_free};
-ghost use Rattle.path_planner.specs.Tables.{value_at, HasPlace, SameSides, Covers, TellsPlaces};
+ghost use Rattle.path_planner.specs.Tables.{value_at, HasPlace, SameSides, CoverGrid, Covers, TellsPlaces};
 
 use fleet_base::{Cell, Grid, Items, Memory};
 use std::alloc::Global;
@@ -9,8 +9,27 @@ use std::alloc::Global;
 /// A number for each cell, by row and column. What it has for a cell is a hint, which whoever reads it tests.
 pub(crate) type CellTable = Items<Items<usize>>;
 
+/// The tables of a grid that all searches on it share.
+#[derive(Drop)]
+pub(crate) struct Tables {
+    /// By cell, the fixed robot that is in it at the next tick.
+    pub(crate) traffic: CellTable,
+    /// By cell, its place in a layer.
+    pub(crate) places: CellTable,
+}
+
+/// The tables of a grid, in which nothing is told yet.
+pub(crate) fn new_tables(alloc: Global, grid: &Grid) -> Result<Tables, Memory>
+    ensures { IfOk result (CoverGrid grid.now) }
+{
+    Ok(Tables {
+        traffic: new_table(alloc, grid)?,
+        places: new_table(alloc, grid)?,
+    })
+}
+
 /// A table with a place for each cell of a grid.
-pub(crate) fn new_table(alloc: Global, grid: &Grid) -> Result<CellTable, Memory>
+fn new_table(alloc: Global, grid: &Grid) -> Result<CellTable, Memory>
     ensures { IfOk result (Covers grid.now) }
 {
     let mut table = CellTable::new(alloc);

@@ -12,8 +12,7 @@ loop-tick-init c =
     record {
       ways = only_goal c.args.grid.now c.args.fixed.now c.args.task c.args.layers.now c.set.new.self last c.requires.ways c.requires.goal (omega (arith, ap length c.as_slice.ensures))
           (c.set.ensures ∙ ap (λ (row : List Cell). slice_set c.args.layers.now last row) c.in_ok-from_slice.ensures);
-      traffic = c.requires.traffic;
-      places = c.requires.places;
+      tables = c.requires.tables;
     }
 
 pub keep_layer-requires-clause-stood : goal.keep_layer-requires-clause-stood
@@ -43,8 +42,7 @@ loop-tick-preserved c =
           (subst (λ (row : List Cell). IsKept c.args.grid.now c.args.fixed.now t row (row_of c.loop-tick.layers (t + 1)) kept) c.row.ensures
           (subst (λ (row : List Cell). IsKept c.args.grid.now c.args.fixed.now t c.row.result.now row kept) c.row-in-loop-tick.ensures c.in_ok-kept.ensures.kept))
           c.set-in-loop-tick.ensures;
-      traffic = c.keep_layer.ensures.traffic;
-      places = c.keep_layer.ensures.places;
+      tables = c.keep_layer.ensures.tables;
     }
 
 pub returns-clause-ticks : goal.returns-clause-ticks

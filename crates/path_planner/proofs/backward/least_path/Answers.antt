@@ -33,8 +33,8 @@ loop-tick-preserved c =
       traffic = c.turn_to.ensures.covers;
     }
 
-pub returns : goal.returns
-returns c =
+pub returns-clause-path : goal.returns-clause-path
+returns-clause-path c =
     let so = c.loop-tick.invariant.led in
     led_end c.args.grid.now c.args.fixed.now c.args.task c.args.layers.now c.requires.ways c.loop-tick.tick c.loop-tick.here c.loop-tick.path.items so
     (omega (arith, c.loop-tick-test.false, ap length c.as_slice.ensures, so.within))

@@ -1,9 +1,10 @@
+use Rattle.std.proofs.Common.{◌+◌}
 use Rattle.path_planner.specs.Tables.{Covers}
 use Rattle.path_planner.proofs.TableLaws.{RobotsOf}
-use Rattle.path_planner.proofs.steps.put_robots.Given as goal
+use Rattle.path_planner.proofs.steps.turn_to.Given as goal
 
 abbrev pub invariant-loop-robot : goal.invariant-loop-robot
 invariant-loop-robot l = record {
-  covers : Covers l.grid l.table;
-  robots : RobotsOf l.fixed l.tick l.robot l.table;
+  covers : Covers l.grid l.traffic;
+  robots : RobotsOf l.fixed (l.tick + 1) l.robot l.traffic;
 }
