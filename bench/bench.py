@@ -1,10 +1,11 @@
 #!/usr/bin/env python3
 """Times `fleet check` on large files of its own making, beside `cksum` and `wc -w` of the same files, rankings, schedules,
-checks of certificates, sessions, the opening of journals, and what it costs to keep a report.
+checks of certificates, plans in turn, sessions, the opening of journals, and what it costs to keep a report.
 
-Usage: bench/bench.py FLEET RANK_BENCH CERT_BENCH [TABLE..]
+Usage: bench/bench.py FLEET RANK_BENCH CERT_BENCH PLAN_BENCH [TABLE..]
 
-With names of tables (check, rank, session, kept, journal, cert) it makes these alone.
+With names of tables (check, rank, session, kept, journal, cert, plan) it makes these alone. The last one builds its yardstick by
+`rustc`.
 
 Each row of the first table is one pair of files, each row of the second one plan. A time is the least of nine runs, as the
 processor time of the process; the memory is the greatest resident size. The tables are written in Markdown.
@@ -21,6 +22,7 @@ RANKS = 40
 SIDE = 4096
 LISTED = 4097
 KEPT_RUNS = 9
+PLAN_RUNS = 3
 MEMORY = "/dev/shm"
 
 
@@ -38,9 +40,9 @@ def run(command):
     return usage.ru_utime + usage.ru_stime, usage.ru_maxrss / 1024, out.decode().strip()
 
 
-def least(command):
+def least(command, runs=RUNS):
     """The least time of several runs, with its memory and output."""
-    return min((run(command) for _ in range(RUNS)), key=lambda row: row[0])
+    return min((run(command) for _ in range(runs)), key=lambda row: row[0])
 
 
 def write_map(path):
@@ -316,8 +318,50 @@ def cert_table(program):
             cert_row(program, name, [kind, str(crossings), str(arm), str(depth)])
 
 
+PLANS = [
+    (32, 32, 10, 1),
+    (32, 32, 10, 2),
+    (32, 32, 10, 3),
+    (256, 256, 0, 1),
+    (256, 256, 10, 1),
+    (256, 256, 10, 2),
+    (256, 256, 10, 4),
+    (256, 256, 10, 5),
+    (256, 256, 10, 3),
+    (256, 256, 30, 1),
+]
+HORIZON = 1024
+
+
+def plans_timed(program, draw, plans):
+    """The milliseconds of one of so many plans, with the memory and what was written last."""
+    before = least([program, *draw, "0"], PLAN_RUNS)[0]
+    seconds, memory, answer = least([program, *draw, str(plans)], PLAN_RUNS)
+    return 1000 * (seconds - before) / plans, memory, answer
+
+
+def plan_row(program, yardstick, robots, side, blocked, seed):
+    draw = [str(number) for number in (robots, side, HORIZON, blocked, seed)]
+    plans = max(1, 100 * 32 * 32 // (side * side))
+    spent, memory, answer = plans_timed(program, draw, plans)
+    other, _, same = plans_timed(yardstick, draw, plans)
+    assert answer == same
+    print(f"| {side} x {side}, {blocked} % | {seed} | {robots} | {answer} | {spent:,.1f} | {memory:.0f} | {other:,.1f} |", flush=True)
+
+
+def plan_table(program):
+    print("| map, cells blocked | seed | robots | answer | milliseconds | peak MB | milliseconds in Rust |")
+    print("|---|---|---|---|---|---|---|")
+    source = os.path.join(os.path.dirname(os.path.abspath(__file__)), "turns.rs")
+    with tempfile.TemporaryDirectory() as folder:
+        yardstick = os.path.join(folder, "turns")
+        subprocess.run(["rustc", "--edition", "2021", "-O", source, "-o", yardstick], check=True)
+        for row in PLANS:
+            plan_row(program, yardstick, *row)
+
+
 def main():
-    fleet, rank_bench, cert_bench = (os.path.abspath(path) for path in sys.argv[1:4])
+    fleet, rank_bench, cert_bench, plan_bench = (os.path.abspath(path) for path in sys.argv[1:5])
     tables = {
         "check": lambda: check_table(fleet),
         "rank": lambda: rank_table(rank_bench),
@@ -325,8 +369,9 @@ def main():
         "kept": lambda: kept_table(fleet),
         "journal": lambda: journal_table(fleet),
         "cert": lambda: cert_table(cert_bench),
+        "plan": lambda: plan_table(plan_bench),
     }
-    for name in sys.argv[4:] or tables:
+    for name in sys.argv[5:] or tables:
         tables[name]()
         print(flush=True)
 

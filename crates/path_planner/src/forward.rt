@@ -24,8 +24,9 @@ pub(crate) struct Aim {
 }
 
 /// The layers of cells that are reached tick by tick, up to the first tick at which the robot may arrive, or none where it
-/// may not by the horizon. They are sought for a last tick that grows, since an early one leaves few cells in reach. It
-/// grows by more and more, so that all of them together take a few times the ticks of the last one.
+/// may not by the horizon. They are sought for a last tick that grows, since an early one leaves few cells in reach of the
+/// goal. What is added to the least one more than triples each time, up to half of the way to the horizon; then the horizon
+/// itself is tried. So the tries are few, and each takes at most the cells times the ticks until the robot arrives.
 pub(crate) fn first_layers(
     alloc: Global,
     grid: &Grid,
@@ -45,7 +46,7 @@ pub(crate) fn first_layers(
 {
     let near = least_last(task, from, horizon);
     let mut slack = 0;
-    while near + slack < horizon {
+    while near + 2 * slack < horizon {
         let last = near + slack;
         if let Some(layers) = layers_to_arrival(alloc, grid, fixed, tables, task, from, last)? {
             return Ok(Some(layers));

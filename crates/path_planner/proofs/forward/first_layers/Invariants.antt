@@ -1,4 +1,4 @@
-use Rattle.std.proofs.Common.{ℕ, ◌-◌, ◌≤◌}
+use Rattle.std.proofs.Common.{◌-◌, ◌≤◌}
 use Rattle.path_planner.specs.Tables.{CoverGrid}
 use Rattle.path_planner.proofs.forward.first_layers.Given as goal
 

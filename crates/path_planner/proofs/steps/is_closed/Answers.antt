@@ -1,4 +1,4 @@
-use Rattle.std.proofs.Common.{◌<◌, ◌∙◌, sym, subst}
+use Rattle.std.proofs.Common.{◌<◌, sym, subst}
 use Rattle.std.specs.Prelude.{Option}
 use Rattle.fleet_base.specs.declared.geometry.Cell.{Cell}
 use Rattle.plan_steps.specs.Steps.{IsClosed}
