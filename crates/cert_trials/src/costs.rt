@@ -1,16 +1,15 @@
 // What orders cost, by the checkers' rounds and by schedules.
-ghost use Rattle.std.specs.Prelude.{◌≡◌, IfOk};
-ghost use Rattle.fleet_base.specs.State.{IsFleetOf};
 ghost use Rattle.fleet_base.specs.Rules.{IsFleetState};
 ghost use Rattle.release_rule.specs.Releasing.{HasSidesOf};
 ghost use Rattle.cert_check.specs.Rooms.{IsRoomFor};
 ghost use Rattle.longest_path.specs.Ticks.{IsKeptFor};
 
-use crate::scenes::{Scene, Step, corridor, crossing, delay, meetings, state, switching};
+use crate::scenes::{Scene, corridor, crossing, meetings, state};
 use cert_check::{Scratch, order_cost};
-use fleet_base::{Fleet, PairId};
+use fleet_base::Fleet;
 use longest_path::{Ticks, earliest};
-use plan_graph::{Oriented, PlanGraph};
+use plan_graph::Oriented;
+use plan_scenes::{Event, delay, switching, view_of};
 use std::alloc::Global;
 use std::test::Fail;
 
@@ -41,23 +40,9 @@ fn both_costs(
     }
 }
 
-/// The view that gives each pair the side that it has in the fleet.
-fn view_of<'g>(alloc: Global, graph: &'g PlanGraph, fleet: &Fleet) -> Result<Oriented<'g>, Fail>
-    requires { IsFleetOf graph.now fleet.now }
-    ensures graph { IfOk result (λ view. view.graph ≡ graph.now) }
-    ensures sides { IfOk result (λ view. HasSidesOf view fleet.now) }
-{
-    let mut view = graph.orient(alloc)?;
-    for number in 0..graph.pair_count() {
-        let q = PairId(number);
-        view.set(q, Some(fleet.side(q)));
-    }
-    Ok(view)
-}
-
 #[test]
 fn orders_have_these_costs(rt: HostRuntime) -> Result<(), Fail> {
-    let rows: [([Step; 1], u64); 4] = [
+    let rows: [([Event; 1], u64); 4] = [
         ([delay(1, 1, 1, 0)], 10),
         ([switching(delay(1, 1, 1, 0), 0)], 9),
         ([delay(0, 1, 5, 0)], 19),

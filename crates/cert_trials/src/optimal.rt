@@ -1,7 +1,8 @@
 // Trees that show that no order is cheaper, and trees that do not.
 use crate::checking::{no, optimal};
-use crate::scenes::{Scene, arrive, corridor, crossing, delay, switching};
+use crate::scenes::{Scene, corridor, crossing};
 use cert_check::{NoWhy, Verdict};
+use plan_scenes::{arrive, delay, switching};
 use std::alloc::Global;
 use std::process::Abort;
 use std::test::Fail;

@@ -1,7 +1,8 @@
 // Trees that show how far a search came, and trees that do not.
 use crate::checking::{no, optimal, spent};
-use crate::scenes::{Scene, corridor, crossing, delay, meetings};
+use crate::scenes::{Scene, corridor, crossing, meetings};
 use cert_check::{NoWhy, Verdict};
+use plan_scenes::delay;
 use std::alloc::Global;
 use std::process::Abort;
 use std::test::Fail;

@@ -1,3 +1,0 @@
-pub mod Ready
-pub mod Sides
-pub mod Texts

@@ -2,16 +2,14 @@
 ghost use Rattle.std.specs.Prelude.{IfOk};
 ghost use Rattle.edge_groups.specs.Mates.{AreAllMates};
 
-use crate::reading::{listed, sound_plan};
-use crate::walks::{Dice, SQUARE, drawn_walks, text_of};
+use crate::tests::OPEN;
 use edge_groups::{GroupTable, groups};
 use fleet_base::{Pair, PairId};
 use plan_graph::PlanGraph;
+use plan_scenes::{Dice, SQUARE, drawn_walks, listed, sound_plan, text_of};
 use std::alloc::Global;
 use std::test::Fail;
 use switch_pairs::pairs;
-
-const OPEN: &[u8] = b"type octile\nheight 3\nwidth 6\nmap\n......\n......\n......\n";
 
 /// What is told of one pair: the name of its group, and its mates.
 #[derive(Debug, PartialEq, Eq, Drop)]

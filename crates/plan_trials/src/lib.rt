@@ -6,10 +6,6 @@ mod groups;
 #[cfg(test)]
 mod limits;
 #[cfg(test)]
-mod reading;
-#[cfg(test)]
 mod slow;
 #[cfg(test)]
 mod tests;
-#[cfg(test)]
-mod walks;

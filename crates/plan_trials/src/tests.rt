@@ -1,15 +1,15 @@
 use crate::limits::crowded_plan;
-use crate::reading::{listed, sound_plan};
 use crate::slow::slow_pairs;
-use crate::walks::{Dice, SQUARE, drawn_walks, text_of};
 use fleet_base::{Pair, PairId, PairTable, Side, SoundPlan, Visit};
 use plan_graph::{PlanGraph, RankRoom, Ranked, rank};
+use plan_scenes::{Dice, SQUARE, drawn_walks, listed, sound_plan, text_of};
 use std::alloc::Global;
 use std::process::Abort;
 use std::test::Fail;
 use switch_pairs::{PairsError, pairs};
 
-const OPEN: &[u8] = b"type octile\nheight 3\nwidth 6\nmap\n......\n......\n......\n";
+/// An open map.
+pub const OPEN: &[u8] = b"type octile\nheight 3\nwidth 6\nmap\n......\n......\n......\n";
 
 /// A pair in short: robot and number of its lower and of its higher visit, and its side.
 type Row = ((u32, u32), (u32, u32), Side);
