@@ -1,32 +1,24 @@
--- What is found in the words of a command is what the words give, and other words are refused.
-use Rattle.std.proofs.Common.{◌≡◌, ◌∙◌, ◌≤◌, inl, inr, refl, sym, ap, subst, arith, ℕ, Bool, true, false, List, [], ◌∷◌, codes, length, Option, Some, None}
+-- What is found in the words of `check` and of `run` is what the words give, and other words are refused.
+use Rattle.std.proofs.Common.{◌≡◌, ◌∙◌, ◌≤◌, inl, inr, refl, sym, ap, subst, arith, ℕ, Bool, false, List, [], ◌∷◌, codes, length, Option, Some}
 use Rattle.std.specs.Prelude.{flat_map}
-use Rattle.std.proofs.lemmas.Bool.{cases_Bool}
-use Rattle.std.proofs.lemmas.Fmt.{decimal_injective}
-use Rattle.clap.specs.Walk.{Row, Text, first_of, has_row, one_of, with_default}
+use Rattle.clap.specs.Walk.{Row, Text, first_of, one_of, with_default}
 use Rattle.clap.specs.Simple.{matches_of}
 use Rattle.clap.specs.Faults.{fault_of}
-use Rattle.clap.specs.Matches.{first_value, one_text}
+use Rattle.clap.specs.Matches.{first_value}
 use Rattle.clap.specs.Walk.{rows_of}
 use Rattle.clap.specs.declared.parser.matches.Found.{Found}
-use Rattle.clap.proofs.WalkLemmas.{first_value-rows, one_text-rows}
-use Rattle.command_words.specs.Arguments.{IsFoundCheck, IsFoundFlag, IsFoundRun, check_app, run_app}
-use Rattle.command_words.specs.Commands.{AreOne, IsCheck, IsCommand, IsRun, IsUsage, check_grammar, run_grammar}
+use Rattle.command_words.specs.Arguments.{IsFoundCheck, IsFoundRun, check_app, run_app}
+use Rattle.command_words.specs.Commands.{IsCheck, IsCommand, IsRun, IsUsage, check_grammar, run_grammar}
 use Rattle.command_words.specs.declared.command.Command.{Command}
-use Rattle.command_words.specs.declared.command.Command.TheVariants.{Check, Run}
+use Rattle.command_words.specs.declared.command.Command.TheVariants.{Check, Run, Gen, Plan}
 use Rattle.command_words.specs.Telling.{AreKnown}
 use Rattle.command_words.specs.Grammar.{Part, words_of, AreParts, AreOnce, names_in, keys_in, value_in, is_given, IsNumberOr}
-use Rattle.command_words.proofs.Steps.{option_rule, flag_rule, name_rule}
+use Rattle.command_words.proofs.Steps.{flag_rule, name_rule}
 use Rattle.command_words.proofs.Matching.{rows_in}
-use Rattle.command_words.proofs.Values.{named, flag_text, value_is, name_is, flag_is, other_kept}
+use Rattle.command_words.proofs.Values.{named, flag_text, texts_differ, value_is, name_is, flag_is, other_kept}
 use Rattle.command_words.proofs.Whole.{words_give, words_found, parts_known}
 use Rattle.command_words.proofs.Apps.{check_is, check_ids, check_rules, run_is, run_ids, run_rules}
-
-option_plain : (o : Text) (rows : List Row) → with_default rows (option_rule o) ≡ rows
-option_plain o rows = elim (cases_Bool (has_row o rows)) [ inl e ↦ rw e refl | inr e ↦ rw e refl ]
-
-name_plain : (id : Text) (p : ℕ) (rows : List Row) → with_default rows (name_rule id p) ≡ rows
-name_plain id p rows = elim (cases_Bool (has_row id rows)) [ inl e ↦ rw e refl | inr e ↦ rw e refl ]
+use Rattle.command_words.proofs.FirstWord.{option_plain, name_plain, value_rows, flag_rows, flag_decides, tail_is, first_is, some_same, one_number, flag_same, two_names}
 
 -- ---- `check`
 
@@ -78,12 +70,6 @@ run_finds ps parts once few =
 
 -- ---- names
 
-pub two_names : (ws : List Text) (m p : Text) → length ws ≤ 2 → named check_ids ws (codes "map") ≡ Some m → named check_ids ws (codes "plan") ≡ Some p → ws ≡ m ∷ p ∷ []
-two_names [] m p few a b = cc
-two_names (w ∷ []) m p few a b = cc
-two_names (w ∷ x ∷ []) m p few a b = cc
-two_names (w ∷ x ∷ y ∷ ws) m p few a b = absurd (omega (arith, few))
-
 pub three_names : (ws : List Text) (m p j : Text) → length ws ≤ 3 → named run_ids ws (codes "map") ≡ Some m → named run_ids ws (codes "plan") ≡ Some p → named run_ids ws (codes "journal") ≡ Some j → ws ≡ m ∷ p ∷ j ∷ []
 three_names [] m p j few a b c = cc
 three_names (w ∷ []) m p j few a b c = cc
@@ -93,19 +79,10 @@ three_names (w ∷ x ∷ y ∷ z ∷ ws) m p j few a b c = absurd (omega (arith,
 
 -- ---- what is found is what the words give
 
--- the value of an id, where the rows are those of the words
-value_rows : (f : Found) (rows : List Row) (id : Text) → rows_of f ≡ rows → first_value f id ≡ first_of id rows
-value_rows f rows id e = first_value-rows f id ∙ ap (λ (r : List Row). first_of id r) e
-
-flag_rows : (f : Found) (rows : List Row) (id : Text) → rows_of f ≡ rows → one_text f id ≡ one_of id rows
-flag_rows f rows id e = one_text-rows f id ∙ ap (λ (r : List Row). one_of id r) e
-
-flag_decides : (f : Found) (id : Text) (b flag : Bool) → one_text f id ≡ Some (flag_text b) → IsFoundFlag f id flag → flag ≡ b
-flag_decides f id true flag e is = is.given e
-flag_decides f id false flag e is = is.absent e
-
 pub run_sound : (rest : List Text) (f : Found) (command : Command) → AreKnown run_grammar rest → fault_of run_app (codes "run" ∷ rest) ≡ [] → rows_of f ≡ matches_of run_app (codes "run" ∷ rest) → IsFoundRun f command → IsCommand (codes "run" ∷ rest) command
 run_sound rest f (Check m p) known passes rows is = absurd is
+run_sound rest f (Gen seed plan) known passes rows is = absurd is
+run_sound rest f (Plan m s robots horizon) known passes rows is = absurd is
 run_sound rest f (Run m p j budget quiet) known passes rows is =
     let r = words_found run_app (codes "run") run_grammar run_rules run_ids run_is (codes "run") rest known passes in
     let finds = run_finds r.parts r.each r.once r.few in
@@ -125,6 +102,8 @@ run_sound rest f (Run m p j budget quiet) known passes rows is =
 
 pub check_sound : (rest : List Text) (f : Found) (command : Command) → AreKnown check_grammar rest → fault_of check_app (codes "check" ∷ rest) ≡ [] → rows_of f ≡ matches_of check_app (codes "check" ∷ rest) → IsFoundCheck f command → IsCommand (codes "check" ∷ rest) command
 check_sound rest f (Run m p j budget quiet) known passes rows is = absurd is
+check_sound rest f (Gen seed plan) known passes rows is = absurd is
+check_sound rest f (Plan m s robots horizon) known passes rows is = absurd is
 check_sound rest f (Check m p) known passes rows is =
     let r = words_found check_app (codes "check") check_grammar check_rules check_ids check_is (codes "check") rest known passes in
     let finds = check_finds r.parts r.each r.once r.few in
@@ -135,18 +114,12 @@ check_sound rest f (Check m p) known passes rows is =
         words_are = ap (λ (l : List Text). codes "check" ∷ l) r.are;
         are_parts = r.each;
         once = r.once;
-        names_are = two_names (names_in r.parts) m.now p.now r.few
+        names_are = two_names (codes "map") (codes "plan") (names_in r.parts) m.now p.now refl refl refl r.few
             (sym finds.map_is ∙ sym (value_rows f _ (codes "map") same) ∙ is.0) (sym finds.plan_is ∙ sym (value_rows f _ (codes "plan") same) ∙ is.1);
       };
     }
 
 -- ---- what the words give is found
-
-tail_is : (x y : Text) (xs ys : List Text) → x ∷ xs ≡ y ∷ ys → xs ≡ ys
-tail_is x y xs ys e = cc
-
-heads_differ : (rest other : List Text) → codes "check" ∷ rest ≡ codes "run" ∷ other → ⊥
-heads_differ rest other e = cc
 
 -- words of a `run` are known and pass, and each of them is found
 pub run_known : (rest : List Text) (m p j : Text) (budget : ℕ) (quiet : Bool) → IsRun (codes "run" ∷ rest) m p j budget quiet → AreKnown run_grammar rest
@@ -167,26 +140,25 @@ check_passes rest m p is =
     subst (λ (l : List Text). CheckFinds is.parts (codes "check" ∷ l)) (sym (tail_is (codes "check") (codes "check") rest (flat_map words_of is.parts) is.written.words_are))
     (check_finds is.parts is.written.are_parts is.written.once (subst (λ (l : List Text). length l ≤ 2) (sym is.written.names_are) (omega arith)))
 
--- no words with this first one are those of another command
-pub check_is_no_run : (rest : List Text) (m p j : Text) (budget : ℕ) (quiet : Bool) → IsRun (codes "check" ∷ rest) m p j budget quiet → ⊥
-check_is_no_run rest m p j budget quiet is = heads_differ rest (flat_map words_of is.parts) is.written.words_are
-
-pub run_is_no_check : (rest : List Text) (m p : Text) → IsCheck (codes "run" ∷ rest) m p → ⊥
-run_is_no_check rest m p is = heads_differ (flat_map words_of is.parts) rest (sym is.written.words_are)
-
 -- ---- words that are refused
 
 pub run_unknown : (rest : List Text) → (AreKnown run_grammar rest → ⊥) → IsUsage (codes "run" ∷ rest)
-run_unknown rest bad (Check m p) is = run_is_no_check rest m.now p.now is
+run_unknown rest bad (Check m p) is = texts_differ (codes "run") (codes "check") refl (first_is (codes "run") rest (Check m p) is)
+run_unknown rest bad (Gen seed plan) is = texts_differ (codes "run") (codes "gen") refl (first_is (codes "run") rest (Gen seed plan) is)
+run_unknown rest bad (Plan m s robots horizon) is = texts_differ (codes "run") (codes "plan") refl (first_is (codes "run") rest (Plan m s robots horizon) is)
 run_unknown rest bad (Run m p j budget quiet) is = bad (run_known rest m.now p.now j.now budget quiet is)
 
 pub run_refused : (rest : List Text) → (fault_of run_app (codes "run" ∷ rest) ≡ [] → ⊥) → IsUsage (codes "run" ∷ rest)
-run_refused rest bad (Check m p) is = run_is_no_check rest m.now p.now is
+run_refused rest bad (Check m p) is = texts_differ (codes "run") (codes "check") refl (first_is (codes "run") rest (Check m p) is)
+run_refused rest bad (Gen seed plan) is = texts_differ (codes "run") (codes "gen") refl (first_is (codes "run") rest (Gen seed plan) is)
+run_refused rest bad (Plan m s robots horizon) is = texts_differ (codes "run") (codes "plan") refl (first_is (codes "run") rest (Plan m s robots horizon) is)
 run_refused rest bad (Run m p j budget quiet) is = bad (run_passes rest m.now p.now j.now budget quiet is).passes
 
 pub run_lacking : (rest : List Text) (f : Found) → rows_of f ≡ matches_of run_app (codes "run" ∷ rest)
     → ((m p j : Text) (n : ℕ) → first_value f (codes "map") ≡ Some m → first_value f (codes "plan") ≡ Some p → first_value f (codes "journal") ≡ Some j → IsNumberOr 128 0 4096 (first_value f (codes "budget")) n → ⊥) → IsUsage (codes "run" ∷ rest)
-run_lacking rest f rows lacks (Check m p) is = run_is_no_check rest m.now p.now is
+run_lacking rest f rows lacks (Check m p) is = texts_differ (codes "run") (codes "check") refl (first_is (codes "run") rest (Check m p) is)
+run_lacking rest f rows lacks (Gen seed plan) is = texts_differ (codes "run") (codes "gen") refl (first_is (codes "run") rest (Gen seed plan) is)
+run_lacking rest f rows lacks (Plan m s robots horizon) is = texts_differ (codes "run") (codes "plan") refl (first_is (codes "run") rest (Plan m s robots horizon) is)
 run_lacking rest f rows lacks (Run m p j budget quiet) is =
     let finds = run_passes rest m.now p.now j.now budget quiet is in
     let name_at : (id : Text) → named run_ids (names_in is.parts) id ≡ named run_ids (m.now ∷ p.now ∷ j.now ∷ []) id = λ id. ap (λ (l : List Text). named run_ids l id) is.written.names_are in
@@ -194,42 +166,28 @@ run_lacking rest f rows lacks (Run m p j budget quiet) is =
     (value_rows f _ (codes "journal") rows ∙ finds.journal_is ∙ name_at (codes "journal")) (subst (λ (o : Option Text). IsNumberOr 128 0 4096 o budget) (sym (value_rows f _ (codes "budget") rows ∙ finds.budget_is)) is.budget_is)
 
 pub check_unknown : (rest : List Text) → (AreKnown check_grammar rest → ⊥) → IsUsage (codes "check" ∷ rest)
-check_unknown rest bad (Run m p j budget quiet) is = check_is_no_run rest m.now p.now j.now budget quiet is
+check_unknown rest bad (Run m p j budget quiet) is = texts_differ (codes "check") (codes "run") refl (first_is (codes "check") rest (Run m p j budget quiet) is)
+check_unknown rest bad (Gen seed plan) is = texts_differ (codes "check") (codes "gen") refl (first_is (codes "check") rest (Gen seed plan) is)
+check_unknown rest bad (Plan m s robots horizon) is = texts_differ (codes "check") (codes "plan") refl (first_is (codes "check") rest (Plan m s robots horizon) is)
 check_unknown rest bad (Check m p) is = bad (check_known rest m.now p.now is)
 
 pub check_refused : (rest : List Text) → (fault_of check_app (codes "check" ∷ rest) ≡ [] → ⊥) → IsUsage (codes "check" ∷ rest)
-check_refused rest bad (Run m p j budget quiet) is = check_is_no_run rest m.now p.now j.now budget quiet is
+check_refused rest bad (Run m p j budget quiet) is = texts_differ (codes "check") (codes "run") refl (first_is (codes "check") rest (Run m p j budget quiet) is)
+check_refused rest bad (Gen seed plan) is = texts_differ (codes "check") (codes "gen") refl (first_is (codes "check") rest (Gen seed plan) is)
+check_refused rest bad (Plan m s robots horizon) is = texts_differ (codes "check") (codes "plan") refl (first_is (codes "check") rest (Plan m s robots horizon) is)
 check_refused rest bad (Check m p) is = bad (check_passes rest m.now p.now is).passes
 
 pub check_lacking : (rest : List Text) (f : Found) → rows_of f ≡ matches_of check_app (codes "check" ∷ rest)
     → ((m p : Text) → first_value f (codes "map") ≡ Some m → first_value f (codes "plan") ≡ Some p → ⊥) → IsUsage (codes "check" ∷ rest)
-check_lacking rest f rows lacks (Run m p j budget quiet) is = check_is_no_run rest m.now p.now j.now budget quiet is
+check_lacking rest f rows lacks (Run m p j budget quiet) is = texts_differ (codes "check") (codes "run") refl (first_is (codes "check") rest (Run m p j budget quiet) is)
+check_lacking rest f rows lacks (Gen seed plan) is = texts_differ (codes "check") (codes "gen") refl (first_is (codes "check") rest (Gen seed plan) is)
+check_lacking rest f rows lacks (Plan m s robots horizon) is = texts_differ (codes "check") (codes "plan") refl (first_is (codes "check") rest (Plan m s robots horizon) is)
 check_lacking rest f rows lacks (Check m p) is =
     let finds = check_passes rest m.now p.now is in
     let name_at : (id : Text) → named check_ids (names_in is.parts) id ≡ named check_ids (m.now ∷ p.now ∷ []) id = λ id. ap (λ (l : List Text). named check_ids l id) is.written.names_are in
     lacks m.now p.now (value_rows f _ (codes "map") rows ∙ finds.map_is ∙ name_at (codes "map")) (value_rows f _ (codes "plan") rows ∙ finds.plan_is ∙ name_at (codes "plan"))
 
 -- ---- one command
-
-some_same : (x y : Text) → Some x ≡ Some y → x ≡ y
-some_same x y e = cc
-
--- a number that is given is one
-one_number : (usual least most m n : ℕ) (given : Option Text) → IsNumberOr usual least most given m → IsNumberOr usual least most given n → m ≡ n
-one_number usual least most m n None a b = a ∙ sym b
-one_number usual least most m n (Some text) a b = decimal_injective m n a.0.fits b.0.fits (sym a.0.digits ∙ b.0.digits)
-
-flag_same : (a b : Bool) → Some (flag_text a) ≡ Some (flag_text b) → a ≡ b
-flag_same true true e = refl
-flag_same false false e = refl
-flag_same true false e = absurd (texts_differ (some_same (codes "true") (codes "false") e))
-  where
-    texts_differ : codes "true" ≡ codes "false" → ⊥
-    texts_differ e = cc
-flag_same false true e = absurd (texts_differ (some_same (codes "false") (codes "true") e))
-  where
-    texts_differ : codes "false" ≡ codes "true" → ⊥
-    texts_differ e = cc
 
 run_one : (rest : List Text) (m p j m2 p2 j2 : Text) (n n2 : ℕ) (q q2 : Bool) → IsRun (codes "run" ∷ rest) m p j n q → IsRun (codes "run" ∷ rest) m2 p2 j2 n2 q2 → (m ≡ m2) × (p ≡ p2) × (j ≡ j2) × (n ≡ n2) × (q ≡ q2)
 run_one rest m p j m2 p2 j2 n n2 q q2 x y =
@@ -263,10 +221,3 @@ pub same_check : (words : List Text) (m p m2 p2 : Text) → IsCheck words m p �
 same_check words m p m2 p2 x y =
     let e = x.written.words_are in
     check_one (flat_map words_of x.parts) m p m2 p2 (subst (λ (l : List Text). IsCheck l m p) e x) (subst (λ (l : List Text). IsCheck l m2 p2) e y)
-
--- words are those of one command at most
-pub one_command : (words : List Text) (a b : Command) → IsCommand words a → IsCommand words b → AreOne a b
-one_command words (Check m p) (Check m2 p2) x y = same_check words m.now p.now m2.now p2.now x y
-one_command words (Run m p j n q) (Run m2 p2 j2 n2 q2) x y = same_run words m.now p.now j.now m2.now p2.now j2.now n n2 q q2 x y
-one_command words (Check m p) (Run m2 p2 j2 n2 q2) x y = absurd (check_is_no_run _ m2.now p2.now j2.now n2 q2 (subst (λ (l : List Text). IsRun l m2.now p2.now j2.now n2 q2) x.written.words_are y))
-one_command words (Run m p j n q) (Check m2 p2) x y = absurd (check_is_no_run _ m.now p.now j.now n q (subst (λ (l : List Text). IsRun l m.now p.now j.now n q) y.written.words_are x))

@@ -1,8 +1,11 @@
 pub mod Apps
 pub mod Deciding
 pub mod Finding
+pub mod FirstWord
 pub mod Known
+pub mod Makers
 pub mod Matching
+pub mod OneCommand
 pub mod Rows
 pub mod Steps
 pub mod Values

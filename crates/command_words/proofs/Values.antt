@@ -1,5 +1,5 @@
 -- What the rows of parts say of each option, flag and name.
-use Rattle.std.proofs.Common.{◌≡◌, ◌∙◌, ◌≤◌, inl, inr, refl, sym, ap, subst, arith, Bool, true, false, if◌then◌else◌, List, [], ◌∷◌, codes, length, Option, Some, None}
+use Rattle.std.proofs.Common.{◌≡◌, ◌∙◌, ◌≤◌, inl, inr, refl, sym, ap, subst, arith, Bool, true, false, if◌then◌else◌, List, [], ◌∷◌, codes, length, Option, Some, None, true≢false}
 use Rattle.std.specs.Prelude.{bytes_eq, find}
 use Rattle.std.proofs.lemmas.Bool.{cases_Bool}
 use Rattle.std.proofs.lemmas.Slice.Eq.{bytes_eq-Decides}
@@ -11,6 +11,10 @@ use Rattle.command_words.proofs.Matching.{rows_in}
 -- another text
 other_text : (x y : Text) → (x ≡ y → ⊥) → bytes_eq x y ≡ false
 other_text x y differs = elim (cases_Bool (bytes_eq x y)) [ inl t ↦ absurd (differs ((bytes_eq-Decides x y).0 t)) | inr f ↦ f ]
+
+-- texts of which one byte differs
+pub texts_differ : (x y : Text) → bytes_eq x y ≡ false → x ≡ y → ⊥
+texts_differ x y differ e = true≢false (sym ((bytes_eq-Decides x y).1 e) ∙ differ)
 
 -- the text that stands in these names at the place of an id
 abbrev pub named : List Text → List Text → Text → Option Text

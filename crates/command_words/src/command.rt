@@ -19,6 +19,21 @@ pub enum Command<'w> {
         /// That certificates are not sent.
         quiet: bool,
     },
+    /// It sends the map or the plan of a generated fleet.
+    Gen {
+        seed: u64,
+        /// That the plan is sent, in place of the map.
+        plan: bool,
+    },
+    /// It plans paths on the map for the tasks of the scenario.
+    Plan {
+        map: &'w str,
+        scen: &'w str,
+        /// How many of the tasks are taken, if there are as many.
+        robots: u64,
+        /// The last tick at which a robot may arrive.
+        horizon: u64,
+    },
 }
 
 /// Why words are not read.

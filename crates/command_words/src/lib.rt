@@ -4,6 +4,7 @@
 mod command;
 mod keys;
 pub mod laws;
+mod making;
 mod numbers;
 mod parsing;
 mod reading;

@@ -8,6 +8,7 @@ ghost use Rattle.command_words.specs.Grammar.{IsNumberOr};
 
 use crate::command::{Command, WordsError};
 use crate::keys::{Keys, are_known};
+use crate::making::{gen_words, plan_words};
 use crate::numbers::number_or;
 use crate::parsing::parse;
 use clap::{Arg, ArgAction, ArgMatches};
@@ -38,6 +39,10 @@ pub fn read_words(alloc: Global, words: &[String]) -> Result<Command<'_>, WordsE
         check_words(alloc, words)
     } else if word == "run" {
         run_words(alloc, words)
+    } else if word == "gen" {
+        gen_words(alloc, words)
+    } else if word == "plan" {
+        plan_words(alloc, words)
     } else {
         Err(WordsError::Usage)
     }

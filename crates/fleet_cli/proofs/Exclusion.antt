@@ -1,5 +1,5 @@
 -- A plan is sound, or there is a refusal.
-use Rattle.std.proofs.Common.{ℕ, Bool, ◌≡◌, drop, List, [], ◌∷◌, ◌++◌, sym, ap, ◌∙◌, subst, inl, inr, arith, length, take, refl, Some}
+use Rattle.std.proofs.Common.{ℕ, Bool, ◌≡◌, ◌⊎◌, drop, List, [], ◌∷◌, ◌++◌, sym, ap, ◌∙◌, subst, inl, inr, arith, length, take, refl, Some}
 use Rattle.fleet_base.specs.declared.geometry.Cell.{Cell}
 use Rattle.fleet_base.specs.declared.geometry.PlannedVisit.{PlannedVisit}
 use Rattle.fleet_base.specs.declared.status.Status.{Status}
@@ -18,16 +18,17 @@ use Rattle.plan_check.specs.Faults.{IsFirstFault}
 use Rattle.plan_check.proofs.Accepted.{accepted_faultless}
 use Rattle.fleet_cli.specs.declared.fault.Paper.TheVariants as paper
 use Rattle.fleet_cli.specs.declared.fault.Fault.{Fault}
-use Rattle.fleet_cli.specs.declared.fault.Fault.TheVariants.{Usage, Long, Unread, Map, Plan, Unsound, Pairs}
+use Rattle.fleet_cli.specs.declared.fault.Fault.TheVariants.{Usage, Long, Unread, Map, Unsound, Pairs, Scen, BadTask, NoPath}
+use Rattle.fleet_cli.specs.declared.fault.Fault.TheVariants as fault
 use Rattle.command_words.specs.declared.command.Command.{Command}
-use Rattle.command_words.specs.declared.command.Command.TheVariants.{Check, Run}
+use Rattle.command_words.specs.declared.command.Command.TheVariants.{Check, Run, Gen, Plan}
 use Rattle.std.specs.Prelude.{codes}
 use Rattle.command_words.specs.Commands.{IsCommand, AreOne}
-use Rattle.command_words.proofs.Deciding.{one_command}
-use Rattle.fleet_cli.specs.Words.{IsCommandOn, NamesPapers, Checks, RunsWith}
+use Rattle.command_words.proofs.OneCommand.{one_command}
+use Rattle.fleet_cli.specs.Words.{IsCommandOn, NamesPapers, Checks, RunsWith, GeneratesWith, PlansWith}
 use Rattle.fleet_cli.specs.Papers.{Files, IsPaper, IsLong, HasMap, HasPlan, IsSoundPaper}
-use Rattle.fleet_cli.specs.Causes.{IsRefused, IsCause}
-use Rattle.fleet_cli.specs.Due.{IsAsked, IsDue}
+use Rattle.fleet_cli.specs.Causes.{IsRefused, IsPlanCause, IsTaskCause, IsCause}
+use Rattle.fleet_cli.specs.Due.{IsAsked, IsDue, a_check, a_made_text, a_refusal}
 use Rattle.fleet_recovery.specs.Papers.{Papers}
 use Rattle.fleet_recovery.specs.Image.{StandsFor}
 use Rattle.fleet_cli.proofs.Opening.{not_refused}
@@ -35,21 +36,21 @@ use Rattle.fleet_cli.specs.Runs.{sent_on, RunEnds}
 use Rattle.fleet_cli.specs.Lines.{fault_line, status_of}
 use Rattle.fleet_cli.specs.Tasks.{EndsWith}
 use Rattle.fleet_serve.specs.Told.{Sends}
-use Rattle.fleet_cli.specs.Ends.{Call, IsLine, SaysLine, LineEnds, IsRunCall, EndsAs, MayOpen, IsSmooth}
+use Rattle.fleet_cli.specs.Ends.{Call, IsText, SaysText, TextEnds, IsRunCall, EndsAs, MayOpen, IsSmooth}
 
 -- a file that is told has one content
-same_bytes : (files : Files) (name bytes bytes2 : List ℕ) → files.tells → IsPaper files name bytes → IsPaper files name bytes2 → bytes ≡ bytes2
+pub same_bytes : (files : Files) (name bytes bytes2 : List ℕ) → files.tells → IsPaper files name bytes → IsPaper files name bytes2 → bytes ≡ bytes2
 same_bytes files name bytes bytes2 t p q = let e : Some bytes ≡ Some bytes2 = sym (p.is_file t) ∙ q.is_file t in cc
 
 -- and is not both short and long
-short_or_long : (files : Files) (name bytes : List ℕ) (n : ℕ) → files.tells → IsPaper files name bytes → IsLong files name n → ⊥
+pub short_or_long : (files : Files) (name bytes : List ℕ) (n : ℕ) → files.tells → IsPaper files name bytes → IsLong files name n → ⊥
 short_or_long files name bytes n t p l =
     let f = l.is_file t in
     let e : Some bytes ≡ Some f.0 = sym (p.is_file t) ∙ f.1 in
     let same : bytes ≡ f.0 = cc in
     absurd (omega (arith, p.small, l.above, f.2, ap (λ (b : List ℕ). length b) same))
 
-same_map : (files : Files) (name : List ℕ) (g g2 : OccupancyGrid) → files.tells → HasMap files name g → HasMap files name g2 → g ≡ g2
+pub same_map : (files : Files) (name : List ℕ) (g g2 : OccupancyGrid) → files.tells → HasMap files name g → HasMap files name g2 → g ≡ g2
 same_map files name g g2 t m m2 = one_map m.bytes g g2 m.text (subst (λ (b : List ℕ). Rattle.map_text.specs.MapText.IsMapText b g2) (sym (same_bytes files name m.bytes m2.bytes t m.paper m2.paper)) m2.text)
 
 same_plan : (files : Files) (map_name plan_name : List ℕ) (g g2 : OccupancyGrid) (plan plan2 : List (List Cell)) → files.tells → HasPlan files map_name plan_name g plan → HasPlan files map_name plan_name g2 plan2 → plan ≡ plan2
@@ -58,13 +59,19 @@ same_plan files map_name plan_name g g2 plan plan2 t p p2 = means_one p.bytes pl
 -- of the same files, a sound plan and a refusal are both had only where the shelf failed
 one_or_other : (files : Files) (failed : Type 0) (map_name plan_name : List ℕ) (papers : Papers) (routes : List (List PlannedVisit)) (fault : Fault) → files.tells → IsSoundPaper files map_name plan_name papers routes → IsRefused files failed map_name plan_name fault → failed
 one_or_other files failed m p papers routes Usage t s r = absurd r
-one_or_other files failed m p papers routes (Long paper.Map n) t s r = absurd (short_or_long files m s.has.papers.on.bytes n t s.has.papers.on.paper r.1)
+one_or_other files failed m p papers routes (Long paper.Map n) t s r = absurd (short_or_long files m s.has.papers.on.bytes n t s.has.papers.on.paper r)
 one_or_other files failed m p papers routes (Long paper.Plan n) t s r = absurd (short_or_long files p s.has.papers.bytes n t s.has.papers.paper r.1)
-one_or_other files failed m p papers routes (Unread which) t s r = r.1
+one_or_other files failed m p papers routes (Long paper.Scen n) t s r = absurd r
+one_or_other files failed m p papers routes (Unread paper.Map) t s r = r
+one_or_other files failed m p papers routes (Unread paper.Plan) t s r = r.1
+one_or_other files failed m p papers routes (Unread paper.Scen) t s r = absurd r
+one_or_other files failed m p papers routes (Scen f) t s r = absurd r
+one_or_other files failed m p papers routes (BadTask i why) t s r = absurd r
+one_or_other files failed m p papers routes (NoPath i) t s r = absurd r
 one_or_other files failed m p papers routes (Map f) t s r =
     let same = same_bytes files m s.has.papers.on.bytes r.0 t s.has.papers.on.paper r.1 in
     absurd (no_fault s.has.papers.on.bytes s.has.grid f.line f.kind s.has.papers.on.text (subst (λ (b : List ℕ). IsMapFault (file_lines b) f.line f.kind) (sym same) r.2))
-one_or_other files failed m p papers routes (Plan f) t s r =
+one_or_other files failed m p papers routes (fault.Plan f) t s r =
     let same = same_bytes files p s.has.papers.bytes r.2.0 t s.has.papers.paper r.2.1 in
     absurd (faulty s.has.papers.bytes f.line f.column f.kind s.has.plan (subst (λ (b : List ℕ). IsPlanFault (robot_lines b) f.line f.column f.kind) (sym same) r.2.2) s.has.papers.text)
 one_or_other files failed m p papers routes (Unsound u) t s r =
@@ -90,8 +97,14 @@ same_names words a b m p m2 p2 x y = named a b x.papers_are y.papers_are (one_co
     named : (a b : Command) → NamesPapers a m p → NamesPapers b m2 p2 → AreOne a b → (m ≡ m2) × (p ≡ p2)
     named (Check k l) (Check k2 l2) x y e = (x.0 ∙ e.0 ∙ sym y.0, x.1 ∙ e.1 ∙ sym y.1)
     named (Run k l j n q) (Run k2 l2 j2 n2 q2) x y e = (x.0 ∙ e.0 ∙ sym y.0, x.1 ∙ e.1 ∙ sym y.1)
+    named (Gen k f) b x y e = absurd x
+    named (Plan k l n h) b x y e = absurd x
     named (Check k l) (Run k2 l2 j2 n2 q2) x y e = absurd e
+    named (Check k l) (Gen k2 f2) x y e = absurd e
+    named (Check k l) (Plan k2 l2 n2 h2) x y e = absurd e
     named (Run k l j n q) (Check k2 l2) x y e = absurd e
+    named (Run k l j n q) (Gen k2 f2) x y e = absurd e
+    named (Run k l j n q) (Plan k2 l2 n2 h2) x y e = absurd e
 
 -- a check is no run
 pub check_is_no_run : (files : Files) (words : List (List ℕ)) (papers others : Papers) (rs qs : List (List PlannedVisit)) (one other : Command) (journal : List ℕ) (budget : ℕ) (quiet : Bool) → Checks one → RunsWith other journal budget quiet → IsAsked files words one papers rs → IsAsked files words other others qs → ⊥
@@ -100,7 +113,36 @@ check_is_no_run files words papers others rs qs one other journal budget quiet c
     differ : (one other : Command) → Checks one → RunsWith other journal budget quiet → AreOne one other → ⊥
     differ (Check k l) (Check k2 l2) checks runs e = runs
     differ (Check k l) (Run k2 l2 j2 n2 q2) checks runs e = e
+    differ (Check k l) (Gen k2 f2) checks runs e = runs
+    differ (Check k l) (Plan k2 l2 n2 h2) checks runs e = runs
     differ (Run k l j n q) other checks runs e = checks
+    differ (Gen k f) other checks runs e = checks
+    differ (Plan k l n h) other checks runs e = checks
+
+-- a command that names a plan makes neither a fleet nor a plan
+pub names_or_generates : (a b : Command) (m p : List ℕ) (k : ℕ) (flag : Bool) → NamesPapers a m p → GeneratesWith b k flag → AreOne a b → ⊥
+names_or_generates (Gen s f) b m p k flag x y e = x
+names_or_generates (Plan s t n h) b m p k flag x y e = x
+names_or_generates (Check s t) (Check s2 t2) m p k flag x y e = y
+names_or_generates (Check s t) (Run s2 t2 j2 n2 q2) m p k flag x y e = y
+names_or_generates (Check s t) (Gen s2 f2) m p k flag x y e = e
+names_or_generates (Check s t) (Plan s2 t2 n2 h2) m p k flag x y e = y
+names_or_generates (Run s t j n q) (Check s2 t2) m p k flag x y e = y
+names_or_generates (Run s t j n q) (Run s2 t2 j2 n2 q2) m p k flag x y e = y
+names_or_generates (Run s t j n q) (Gen s2 f2) m p k flag x y e = e
+names_or_generates (Run s t j n q) (Plan s2 t2 n2 h2) m p k flag x y e = y
+
+pub names_or_plans : (a b : Command) (m p m2 s2 : List ℕ) (n h : ℕ) → NamesPapers a m p → PlansWith b m2 s2 n h → AreOne a b → ⊥
+names_or_plans (Gen k f) b m p m2 s2 n h x y e = x
+names_or_plans (Plan k l i g) b m p m2 s2 n h x y e = x
+names_or_plans (Check k l) (Check k2 l2) m p m2 s2 n h x y e = y
+names_or_plans (Check k l) (Run k2 l2 j2 i2 q2) m p m2 s2 n h x y e = y
+names_or_plans (Check k l) (Gen k2 f2) m p m2 s2 n h x y e = y
+names_or_plans (Check k l) (Plan k2 l2 i2 g2) m p m2 s2 n h x y e = e
+names_or_plans (Run k l j i q) (Check k2 l2) m p m2 s2 n h x y e = y
+names_or_plans (Run k l j i q) (Run k2 l2 j2 i2 q2) m p m2 s2 n h x y e = y
+names_or_plans (Run k l j i q) (Gen k2 f2) m p m2 s2 n h x y e = y
+names_or_plans (Run k l j i q) (Plan k2 l2 i2 g2) m p m2 s2 n h x y e = e
 
 -- words ask for one plan, and its files have one content
 same_asked : (files : Files) (words : List (List ℕ)) (a b : Command) (papers others : Papers) (rs qs : List (List PlannedVisit)) → files.tells → IsAsked files words a papers rs → IsAsked files words b others qs → (papers ≡ others) × (rs ≡ qs)
@@ -114,8 +156,10 @@ same_asked files words a b papers others rs qs t x y =
     (papers_are papers others (s.map_is ∙ maps ∙ sym r.map_is) (s.plan_is ∙ texts ∙ sym r.plan_is), s.has.visits ∙ ap (λ (ps : List (List Cell)). visits_of ps) plans ∙ sym r.has.visits)
 
 asked_or_named : (files : Files) (failed : Type 0) (words : List (List ℕ)) (command : Command) (papers : Papers) (routes : List (List PlannedVisit)) (fault : Fault) → files.tells → IsAsked files words command papers routes
-    → (other : Command) × (map_name plan_name : List ℕ) × IsCommandOn words other map_name plan_name × IsRefused files failed map_name plan_name fault → failed
-asked_or_named files failed words command papers routes fault t a (other, map_name, plan_name, named, refused) =
+    → IsPlanCause files failed words fault ⊎ IsTaskCause files failed words fault → failed
+asked_or_named files failed words command papers routes fault t a (inr (m, s, n, h, asks, unplanned)) =
+    absurd (names_or_plans command asks.command a.map_name a.plan_name m s n h a.words_are.papers_are asks.plans (one_command words command asks.command a.words_are.words_are asks.words_are))
+asked_or_named files failed words command papers routes fault t a (inl (other, map_name, plan_name, named, refused)) =
     let names = same_names words command other a.map_name a.plan_name map_name plan_name a.words_are named in
     one_or_other files failed map_name plan_name papers routes fault t
     (subst (λ (m : List ℕ). IsSoundPaper files m plan_name papers routes) names.0 (subst (λ (p : List ℕ). IsSoundPaper files a.map_name p papers routes) names.1 a.sound)) refused
@@ -125,30 +169,34 @@ sound_or_refused files failed words command papers routes Usage t a c = absurd (
 sound_or_refused files failed words command papers routes (Long which n) t a c = asked_or_named files failed words command papers routes (Long which n) t a c
 sound_or_refused files failed words command papers routes (Unread which) t a c = asked_or_named files failed words command papers routes (Unread which) t a c
 sound_or_refused files failed words command papers routes (Map f) t a c = asked_or_named files failed words command papers routes (Map f) t a c
-sound_or_refused files failed words command papers routes (Plan f) t a c = asked_or_named files failed words command papers routes (Plan f) t a c
+sound_or_refused files failed words command papers routes (fault.Plan f) t a c = asked_or_named files failed words command papers routes (fault.Plan f) t a c
 sound_or_refused files failed words command papers routes (Unsound u) t a c = asked_or_named files failed words command papers routes (Unsound u) t a c
 sound_or_refused files failed words command papers routes (Pairs n) t a c = asked_or_named files failed words command papers routes (Pairs n) t a c
+sound_or_refused files failed words command papers routes (Scen f) t a c = asked_or_named files failed words command papers routes (Scen f) t a c
+sound_or_refused files failed words command papers routes (BadTask i why) t a c = asked_or_named files failed words command papers routes (BadTask i why) t a c
+sound_or_refused files failed words command papers routes (NoPath i) t a c = asked_or_named files failed words command papers routes (NoPath i) t a c
 
 -- ---- how a call ends
 
--- where the plan is sound and the shelf did not fail, the line that is due ends the call well
-due_is_done : (files : Files) (failed : Type 0) (words : List (List ℕ)) (command : Command) (papers : Papers) (routes : List (List PlannedVisit)) (end : Status) (line : List ℕ) → files.tells → IsAsked files words command papers routes → (failed → ⊥) → IsDue files failed words end line → end ≡ Done
-due_is_done files failed words command papers routes end line t a fine (inl d) = d.0
-due_is_done files failed words command papers routes end line t a fine (inr d) = absurd (fine (sound_or_refused files failed words command papers routes d.0 t a d.1))
+-- where the plan is sound and the shelf did not fail, the text that is due ends the call well
+due_is_done : (files : Files) (failed : Type 0) (words : List (List ℕ)) (command : Command) (papers : Papers) (routes : List (List PlannedVisit)) (end : Status) (text : List ℕ) → files.tells → IsAsked files words command papers routes → (failed → ⊥) → IsDue files failed words end text → end ≡ Done
+due_is_done files failed words command papers routes end text t a fine (a_check done other others qs checks asked is) = done
+due_is_done files failed words command papers routes end text t a fine (a_made_text done made) = done
+due_is_done files failed words command papers routes end text t a fine (a_refusal fault cause e is) = absurd (fine (sound_or_refused files failed words command papers routes fault t a cause))
 
 -- what a status that is no other is
-not_done : (call : Call) (command : Command) (papers : Papers) (routes : List (List PlannedVisit)) (end : Status) → call.files.tells → IsAsked call.files call.words command papers routes → (call.shelf_failed → ⊥) → SaysLine call end → end ≡ Done
-not_done call command papers routes end t a fine (line, due, sends) = due_is_done call.files call.shelf_failed call.words command papers routes end line t a fine due
+not_done : (call : Call) (command : Command) (papers : Papers) (routes : List (List PlannedVisit)) (end : Status) → call.files.tells → IsAsked call.files call.words command papers routes → (call.shelf_failed → ⊥) → SaysText call end → end ≡ Done
+not_done call command papers routes end t a fine (text, due, sends) = due_is_done call.files call.shelf_failed call.words command papers routes end text t a fine due
 
-line_smooth : (call : Call) (command : Command) (papers : Papers) (routes : List (List PlannedVisit)) (end : Status) → call.files.tells → IsAsked call.files call.words command papers routes → (call.shelf_failed → ⊥) → (call.talk.line.failed → ⊥) → LineEnds call end → IsSmooth command end
-line_smooth call command papers routes Done t a fine sent l = tt
-line_smooth call command papers routes status.Usage t a fine sent l = let e : status.Usage ≡ Done = not_done call command papers routes status.Usage t a fine l in cc
-line_smooth call command papers routes Input t a fine sent l = let e : Input ≡ Done = not_done call command papers routes Input t a fine l in cc
-line_smooth call command papers routes Journal t a fine sent l = absurd l
-line_smooth call command papers routes ReadFault t a fine sent l = let e : ReadFault ≡ Done = not_done call command papers routes ReadFault t a fine l in cc
-line_smooth call command papers routes StationFault t a fine sent l = absurd (sent l.0)
-line_smooth call command papers routes Memory t a fine sent l = tt
-line_smooth call command papers routes Limit t a fine sent l = absurd l
+text_smooth : (call : Call) (command : Command) (papers : Papers) (routes : List (List PlannedVisit)) (end : Status) → call.files.tells → IsAsked call.files call.words command papers routes → (call.shelf_failed → ⊥) → (call.talk.line.failed → ⊥) → TextEnds call end → IsSmooth command end
+text_smooth call command papers routes Done t a fine sent l = tt
+text_smooth call command papers routes status.Usage t a fine sent l = let e : status.Usage ≡ Done = not_done call command papers routes status.Usage t a fine l in cc
+text_smooth call command papers routes Input t a fine sent l = let e : Input ≡ Done = not_done call command papers routes Input t a fine l in cc
+text_smooth call command papers routes Journal t a fine sent l = absurd l
+text_smooth call command papers routes ReadFault t a fine sent l = let e : ReadFault ≡ Done = not_done call command papers routes ReadFault t a fine l in cc
+text_smooth call command papers routes StationFault t a fine sent l = absurd (sent l.0)
+text_smooth call command papers routes Memory t a fine sent l = tt
+text_smooth call command papers routes Limit t a fine sent l = absurd l
 
 -- the routes of a sound plan
 pub routes_are : (files : Files) (map_name plan_name : List ℕ) (papers : Papers) (routes : List (List PlannedVisit)) → IsSoundPaper files map_name plan_name papers routes → AreRoutes routes
@@ -159,6 +207,8 @@ run_smooth : (call : Call) (command : Command) (papers : Papers) (routes : List 
 run_smooth call command papers routes Done t a may taken sent r e = tt
 run_smooth call command papers routes status.Usage t a may taken sent r e = absurd e
 run_smooth call command papers routes Input t a may taken sent r e = absurd e
+run_smooth call (Gen k f) papers routes Journal t a may taken sent r e = absurd a.words_are.papers_are
+run_smooth call (Plan m s n h) papers routes Journal t a may taken sent r e = absurd a.words_are.papers_are
 run_smooth call (Check m p) papers routes Journal t a may taken sent r e = absurd (check_is_no_run call.files call.words papers r.papers routes r.routes (Check m p) r.command r.journal r.budget r.quiet tt r.runs a r.asked)
 run_smooth call (Run m p j n q) papers routes Journal t a may taken sent r e =
     let same = same_asked call.files call.words (Run m p j n q) r.command papers r.papers routes r.routes t a r.asked in
@@ -167,31 +217,37 @@ run_smooth call (Run m p j n q) papers routes Journal t a may taken sent r e =
 run_smooth call command papers routes ReadFault t a may taken sent r e = absurd (taken e.0)
 run_smooth call command papers routes StationFault t a may taken sent r e = absurd (sent e.0)
 run_smooth call command papers routes Memory t a may taken sent r e = tt
+run_smooth call (Gen k f) papers routes Limit t a may taken sent r e = absurd a.words_are.papers_are
+run_smooth call (Plan m s n h) papers routes Limit t a may taken sent r e = absurd a.words_are.papers_are
 run_smooth call (Check m p) papers routes Limit t a may taken sent r e = absurd (check_is_no_run call.files call.words papers r.papers routes r.routes (Check m p) r.command r.journal r.budget r.quiet tt r.runs a r.asked)
 run_smooth call (Run m p j n q) papers routes Limit t a may taken sent r e = tt
 
 -- where a command is asked of a sound plan and nothing fails, the call ends well, at the limit of input, or for want of memory
 pub ends_smooth : (call : Call) (command : Command) (papers : Papers) (routes : List (List PlannedVisit)) (end : Status) → call.files.tells → IsAsked call.files call.words command papers routes → MayOpen command routes papers call.talk.line.tells call.talk.line.old.seen
     → (call.shelf_failed → ⊥) → (call.talk.source_failed → ⊥) → (call.talk.line.failed → ⊥) → EndsAs call end → IsSmooth command end
-ends_smooth call command papers routes end t a may fine taken sent (inl l) = line_smooth call command papers routes end t a fine sent l.ends
+ends_smooth call command papers routes end t a may fine taken sent (inl l) = text_smooth call command papers routes end t a fine sent l.ends
 ends_smooth call command papers routes end t a may fine taken sent (inr r) = run_smooth call command papers routes end t a may taken sent r r.ends
 
--- ---- one line that is said
+-- ---- one text that is said
 
--- the whole line that is due ends the call with its status
-said_line : (call : Call) (end : Status) (line : List ℕ) → IsLine call end line → Sends (sent_on call.talk.line) (line ++ 10 ∷ []) → LineEnds call end
-said_line call end line (inl d) sends = subst (LineEnds call) (sym d.0) (line, inl (refl, d.1), sends)
-said_line call end line (inr (fault, cause, e, l)) sends = subst (LineEnds call) (sym e) (of_fault fault cause l)
+-- the whole text that is due ends the call with its status
+said_text : (call : Call) (end : Status) (text : List ℕ) → IsText call end text → Sends (sent_on call.talk.line) text → TextEnds call end
+said_text call end text (a_check done command papers routes checks asked is) sends = subst (TextEnds call) (sym done) (text, a_check refl command papers routes checks asked is, sends)
+said_text call end text (a_made_text done made) sends = subst (TextEnds call) (sym done) (text, a_made_text refl made, sends)
+said_text call end text (a_refusal fault cause e is) sends = subst (TextEnds call) (sym e) (of_fault fault cause is)
   where
-    of_fault : (f : Fault) → IsCause call.files call.shelf_failed call.words f → line ≡ fault_line f → LineEnds call (status_of f)
-    of_fault Usage k l = (line, inr (Usage, k, refl, l), sends)
-    of_fault (Long which n) k l = (line, inr (Long which n, k, refl, l), sends)
-    of_fault (Unread which) k l = (line, inr (Unread which, k, refl, l), sends)
-    of_fault (Map f) k l = (line, inr (Map f, k, refl, l), sends)
-    of_fault (Plan f) k l = (line, inr (Plan f, k, refl, l), sends)
-    of_fault (Unsound u) k l = (line, inr (Unsound u, k, refl, l), sends)
-    of_fault (Pairs n) k l = (line, inr (Pairs n, k, refl, l), sends)
+    of_fault : (f : Fault) → IsCause call.files call.shelf_failed call.words f → text ≡ fault_line f ++ 10 ∷ [] → TextEnds call (status_of f)
+    of_fault Usage k l = (text, a_refusal Usage k refl l, sends)
+    of_fault (Long which n) k l = (text, a_refusal (Long which n) k refl l, sends)
+    of_fault (Unread which) k l = (text, a_refusal (Unread which) k refl l, sends)
+    of_fault (Map f) k l = (text, a_refusal (Map f) k refl l, sends)
+    of_fault (fault.Plan f) k l = (text, a_refusal (fault.Plan f) k refl l, sends)
+    of_fault (Unsound u) k l = (text, a_refusal (Unsound u) k refl l, sends)
+    of_fault (Pairs n) k l = (text, a_refusal (Pairs n) k refl l, sends)
+    of_fault (Scen f) k l = (text, a_refusal (Scen f) k refl l, sends)
+    of_fault (BadTask i why) k l = (text, a_refusal (BadTask i why) k refl l, sends)
+    of_fault (NoPath i) k l = (text, a_refusal (NoPath i) k refl l, sends)
 
-pub say_ends : (call : Call) (status end : Status) (line text : List ℕ) → IsLine call status line → text ≡ line ++ 10 ∷ [] → EndsWith status text (sent_on call.talk.line) call.talk.line.failed end → LineEnds call end
-say_ends call status end line text due e (inl (same, sends)) = subst (LineEnds call) (sym same) (said_line call status line due (λ told. sends told ∙ ap (λ (t : List ℕ). call.talk.line.old.seen.sent ++ t) e))
-say_ends call status end line text due e (inr (same, failed, part)) = subst (LineEnds call) (sym same) (failed, (status, line, due, λ told. let p = part told in (p.0, p.1 ∙ ap (λ (t : List ℕ). call.talk.line.old.seen.sent ++ take p.0 t) e)))
+pub say_ends : (call : Call) (status end : Status) (text bytes : List ℕ) → IsText call status text → bytes ≡ text → EndsWith status bytes (sent_on call.talk.line) call.talk.line.failed end → TextEnds call end
+say_ends call status end text bytes due e (inl (same, sends)) = subst (TextEnds call) (sym same) (said_text call status text due (λ told. sends told ∙ ap (λ (t : List ℕ). call.talk.line.old.seen.sent ++ t) e))
+say_ends call status end text bytes due e (inr (same, failed, part)) = subst (TextEnds call) (sym same) (failed, (status, text, due, λ told. let p = part told in (p.0, p.1 ∙ ap (λ (t : List ℕ). call.talk.line.old.seen.sent ++ take p.0 t) e)))

@@ -6,8 +6,11 @@ pub mod LivesJoining
 pub mod LivesMarks
 pub mod LivesMoments
 pub mod LivesReports
+pub mod Made
 pub mod Opening
 pub mod Pieces
 pub mod Reasons
 pub mod RunSessions
 pub mod Running
+pub mod Unplanned
+pub mod Writable

@@ -1,5 +1,5 @@
 -- How a call of the program ends, by its status, and what it has sent.
-use Rattle.std.specs.Prelude.{ℕ, ◌⊎◌, Bool, List, [], ◌∷◌, ◌++◌}
+use Rattle.std.specs.Prelude.{ℕ, ◌≡◌, ◌⊎◌, Bool, List, []}
 use Rattle.fleet_base.specs.declared.geometry.PlannedVisit.{PlannedVisit}
 use Rattle.fleet_base.specs.declared.status.Status.{Status}
 use Rattle.fleet_base.specs.declared.status.Status.TheVariants.{Done, Usage, Input, Journal, ReadFault, StationFault, Memory, Limit}
@@ -9,11 +9,11 @@ use Rattle.fleet_recovery.specs.Image.{StandsFor}
 use Rattle.station_api.specs.Scene.{Scene}
 use Rattle.fleet_serve.specs.Told.{Sends, SendsPart, Takes}
 use Rattle.command_words.specs.declared.command.Command.{Command}
-use Rattle.command_words.specs.declared.command.Command.TheVariants.{Check, Run}
+use Rattle.command_words.specs.declared.command.Command.TheVariants.{Run}
 use Rattle.fleet_cli.specs.Papers.{Files}
 use Rattle.fleet_cli.specs.Words.{RunsWith}
 use Rattle.fleet_cli.specs.Due.{IsAsked, IsDue}
-use Rattle.fleet_cli.specs.Runs.{Talk, sent_on, SidesStay, RunEnds, IsRunSession}
+use Rattle.fleet_cli.specs.Runs.{Line, Talk, sent_on, SidesStay, RunEnds, IsRunSession}
 
 -- all that a call of the program is handed and leaves: its words, the files and whether the shelf failed, and its talk
 pub record Call : Type 1 where
@@ -22,31 +22,31 @@ pub record Call : Type 1 where
   pub shelf_failed : Type 0
   pub talk : Talk
 
--- the line is the one that is due with this status
-abbrev pub IsLine : Call → Status → List ℕ → Type 0
-IsLine call end line = IsDue call.files call.shelf_failed call.words end line
+-- the text is the one that is due with this status
+abbrev pub IsText : Call → Status → List ℕ → Type 0
+IsText call end text = IsDue call.files call.shelf_failed call.words end text
 
--- the line that is due was sent whole
-abbrev pub SaysLine : Call → Status → Type 0
-SaysLine call end = (line : List ℕ) × IsLine call end line × Sends (sent_on call.talk.line) (line ++ 10 ∷ [])
+-- the text that is due was sent whole
+abbrev pub SaysText : Call → Status → Type 0
+SaysText call end = (text : List ℕ) × IsText call end text × Sends (sent_on call.talk.line) text
 
--- How a call ends that has one line to say. After want of memory it has sent nothing; after a fault of the station, some front of
--- the line that is due; else the whole line.
-abbrev pub LineEnds : Call → Status → Type 0
-LineEnds call Done = SaysLine call Done
-LineEnds call Usage = SaysLine call Usage
-LineEnds call Input = SaysLine call Input
-LineEnds call Journal = ⊥
-LineEnds call ReadFault = SaysLine call ReadFault
-LineEnds call StationFault = call.talk.line.failed × ((end : Status) × (line : List ℕ) × IsLine call end line × SendsPart (sent_on call.talk.line) [] (line ++ 10 ∷ []))
-LineEnds call Memory = Sends (sent_on call.talk.line) []
-LineEnds call Limit = ⊥
+-- How a call ends that has one text to say. After want of memory it has sent nothing; after a fault of the station, some front of
+-- the text that is due; else the whole text.
+abbrev pub TextEnds : Call → Status → Type 0
+TextEnds call Done = SaysText call Done
+TextEnds call Usage = SaysText call Usage
+TextEnds call Input = SaysText call Input
+TextEnds call Journal = ⊥
+TextEnds call ReadFault = SaysText call ReadFault
+TextEnds call StationFault = call.talk.line.failed × ((end : Status) × (text : List ℕ) × IsText call end text × SendsPart (sent_on call.talk.line) [] text)
+TextEnds call Memory = Sends (sent_on call.talk.line) []
+TextEnds call Limit = ⊥
 
--- a call that has one line to say takes no input, and the sides stay as they are
-pub record IsLineCall (call : Call) (end : Status) : Type 0 where
+-- a call that has one text to say takes no input, and the sides stay as they are
+pub record IsTextCall (call : Call) (end : Status) : Type 0 where
   pub takes : Takes call.talk.input []
   pub stay : SidesStay call.talk.line
-  pub ends : LineEnds call end
+  pub ends : TextEnds call end
 
 -- A call that runs a sound plan, with the journal, the budget and the flag that the words give: how it ends, and that it is a session.
 pub record IsRunCall (call : Call) (end : Status) : Type 0 where
@@ -61,9 +61,9 @@ pub record IsRunCall (call : Call) (end : Status) : Type 0 where
   pub ends : RunEnds routes papers call.talk end
   pub session : IsRunSession routes papers call.talk
 
--- how a call ends: it says one line, or it is a run of a sound plan
+-- how a call ends: it says one text, or it is a run of a sound plan
 abbrev pub EndsAs : Call → Status → Type 0
-EndsAs call end = IsLineCall call end ⊎ IsRunCall call end
+EndsAs call end = IsTextCall call end ⊎ IsRunCall call end
 
 -- a command ends well, at the limit of input, or for want of memory
 abbrev pub IsSmooth : Command → Status → Type 0
@@ -74,10 +74,14 @@ IsSmooth command Journal = ⊥
 IsSmooth command ReadFault = ⊥
 IsSmooth command StationFault = ⊥
 IsSmooth command Memory = Unit {0}
-IsSmooth (Check m p) Limit = ⊥
 IsSmooth (Run m p journal budget quiet) Limit = Unit {0}
+IsSmooth command Limit = ⊥
+
+-- the text was sent whole, or memory was wanting
+abbrev pub SendsIfMemory : Line → List ℕ → Status → Type 0
+SendsIfMemory line text end = ((end ≡ Done) × Sends (sent_on line) text) ⊎ (end ≡ Memory)
 
 -- the sides are told and stand for a state, if the command is a run
 abbrev pub MayOpen : Command → List (List PlannedVisit) → Papers → Type 0 → Scene → Type 0
-MayOpen (Check m p) routes papers tells scene = Unit {0}
 MayOpen (Run m p journal budget quiet) routes papers tells scene = tells × ((x : FleetState) × StandsFor routes papers scene x)
+MayOpen _ routes papers tells scene = Unit {0}

@@ -2,9 +2,11 @@ pub mod Causes
 pub mod Due
 pub mod Ends
 pub mod Fetching
+pub mod Generating
 pub mod Lines
 pub mod Lives
 pub mod Papers
+pub mod Planning
 pub mod Refusing
 pub mod Runs
 pub mod Sessions

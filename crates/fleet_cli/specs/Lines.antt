@@ -7,6 +7,10 @@ use Rattle.fleet_base.specs.Bytes.{field}
 use Rattle.fleet_base.specs.Pairs.{pairs_of}
 use Rattle.map_text.specs.declared.fault.MapKind.{MapKind}
 use Rattle.map_text.specs.declared.fault.MapKind.TheVariants as map_kind
+use Rattle.map_text.specs.declared.scenario.ScenKind.{ScenKind}
+use Rattle.map_text.specs.declared.scenario.ScenKind.TheVariants as scen_kind
+use Rattle.path_planner.specs.declared.fault.TaskWhy.{TaskWhy}
+use Rattle.path_planner.specs.declared.fault.TaskWhy.TheVariants as task_why
 use Rattle.plan_text.specs.declared.fault.PlanKind.{PlanKind}
 use Rattle.plan_text.specs.declared.fault.PlanKind.TheVariants as plan_kind
 use Rattle.plan_check.specs.declared.fault.Large.{Large}
@@ -22,6 +26,7 @@ use Rattle.fleet_cli.specs.declared.fault.Fault.TheVariants as fault
 abbrev pub paper_word : Paper → List ℕ
 paper_word paper.Map = codes "map"
 paper_word paper.Plan = codes "plan"
+paper_word paper.Scen = codes "scen"
 
 -- the word of what is wrong with a map
 abbrev pub map_word : MapKind → List ℕ
@@ -40,6 +45,21 @@ abbrev pub plan_word : PlanKind → List ℕ
 plan_word plan_kind.Label = codes "label"
 plan_word plan_kind.Path = codes "path"
 plan_word plan_kind.Empty = codes "empty"
+
+-- the word of what is wrong with a scenario
+abbrev pub scen_word : ScenKind → List ℕ
+scen_word scen_kind.Version = codes "version"
+scen_word scen_kind.Fields = codes "fields"
+scen_word scen_kind.Number = codes "number"
+scen_word scen_kind.Empty = codes "empty"
+
+-- the word of what is wrong with a task
+abbrev pub task_word : TaskWhy → List ℕ
+task_word task_why.Size = codes "size"
+task_word task_why.Start = codes "start"
+task_word task_why.Goal = codes "goal"
+task_word task_why.SameStart = codes "samestart"
+task_word task_why.SameGoal = codes "samegoal"
 
 -- the word of a limit
 abbrev pub large_word : Large → List ℕ
@@ -70,6 +90,9 @@ fault_line (fault.Map f) = codes "fault map" ++ fields (f.line ∷ []) ++ codes 
 fault_line (fault.Plan f) = codes "fault plan" ++ fields (f.line ∷ f.column ∷ []) ++ codes " " ++ plan_word f.kind
 fault_line (fault.Unsound u) = unsound_line u
 fault_line (fault.Pairs n) = codes "fault pairs" ++ fields (n ∷ [])
+fault_line (fault.Scen f) = codes "fault scen" ++ fields (f.line ∷ []) ++ codes " " ++ scen_word f.kind
+fault_line (fault.BadTask i why) = codes "fault task" ++ fields (i ∷ []) ++ codes " " ++ task_word why
+fault_line (fault.NoPath i) = codes "fault nopath" ++ fields (i ∷ [])
 
 -- the status of a refusal
 abbrev pub status_of : Fault → Status
@@ -80,6 +103,9 @@ status_of (fault.Map f) = status.Input
 status_of (fault.Plan f) = status.Input
 status_of (fault.Unsound u) = status.Input
 status_of (fault.Pairs n) = status.Input
+status_of (fault.Scen f) = status.Input
+status_of (fault.BadTask i why) = status.Input
+status_of (fault.NoPath i) = status.Input
 
 -- how many robots, visits and pairs a plan has
 abbrev pub sound_line : List (List PlannedVisit) → List ℕ

@@ -29,11 +29,15 @@ pub record IsPaper (files : Files) (name bytes : List ℕ) : Type 0 where
   pub is_file : IsFile files name bytes
   pub small : length bytes ≤ 2 ^ 25
 
--- the file of this name is a map
+-- the file of this name is this map
 pub record HasMap (files : Files) (map_name : List ℕ) (grid : OccupancyGrid) : Type 0 where
   pub bytes : List ℕ
   pub paper : IsPaper files map_name bytes
   pub text : IsMapText bytes grid
+
+-- the file of this name is a map
+abbrev pub HasAMap : Files → List ℕ → Type 0
+HasAMap files map_name = (grid : OccupancyGrid) × HasMap files map_name grid
 
 -- and the other file is a plan
 pub record HasPlan (files : Files) (map_name plan_name : List ℕ) (grid : OccupancyGrid) (plan : List (List Cell)) : Type 0 where

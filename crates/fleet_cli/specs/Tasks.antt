@@ -1,5 +1,5 @@
 -- What is to be done for some words, once the files are read.
-use Rattle.std.specs.Prelude.{ℕ, ◌≡◌, ◌⊎◌, List, [], ◌∷◌, ◌++◌}
+use Rattle.std.specs.Prelude.{ℕ, ◌≡◌, ◌⊎◌, List, []}
 use Rattle.fleet_base.specs.declared.status.Status.{Status}
 use Rattle.fleet_base.specs.declared.status.Status.TheVariants.{StationFault}
 use Rattle.fleet_base.specs.Pairs.{pairs_of}
@@ -24,9 +24,9 @@ abbrev pub IsCalledFor : Files → Type 0 → List (List ℕ) → Refusal → Ty
 IsCalledFor files failed words (Fault fault) = IsCause files failed words fault
 IsCalledFor files failed words Memory = Unit {0}
 
--- the line that is due is to be said, or the plan is to be run
+-- the text that is due is to be said, or the plan is to be run
 abbrev pub IsTask : Files → Type 0 → List (List ℕ) → Task → Type 0
-IsTask files failed words (Say reply) = (line : List ℕ) × IsDue files failed words reply.status line × (reply.text ≡ line ++ 10 ∷ [])
+IsTask files failed words (Say reply) = IsDue files failed words reply.status reply.text
 IsTask files failed words (Serve papers journal budget quiet) = (command : Command) × RunsWith command journal.now budget quiet × AsksFor files words command papers
 
 -- a text was sent whole, and the status is this one; or the station failed

@@ -1,6 +1,7 @@
 // Why a command is refused, and the line that says so.
-use fleet_base::Status;
-use map_text::MapFault;
+use fleet_base::{Memory, Status};
+use map_text::{MapFault, ScenFault};
+use path_planner::TaskWhy;
 use plan_check::Unsound;
 use plan_text::PlanFault;
 
@@ -9,6 +10,7 @@ use plan_text::PlanFault;
 pub enum Paper {
     Map,
     Plan,
+    Scen,
 }
 
 /// Why a command is refused. Each has a line and a status of its own.
@@ -28,6 +30,12 @@ pub enum Fault {
     Unsound(Unsound),
     /// The plan has more than 1,048,576 pairs.
     Pairs { count: u64 },
+    /// The scenario is not in the grammar.
+    Scen(ScenFault),
+    /// The task of this robot is bad.
+    BadTask { robot: u32, why: TaskWhy },
+    /// This robot has no path beside those of the robots before it.
+    NoPath { robot: u32 },
 }
 
 impl Fault {
@@ -51,4 +59,15 @@ impl Fault {
 pub enum Refusal {
     Fault(Fault),
     Memory,
+}
+
+impl From<Memory> for Refusal {
+    ghost use Rattle.std.specs.Prelude.{◌≡◌};
+    ghost use Rattle.fleet_cli.specs.declared.fault.Refusal.TheVariants as refusal;
+
+    ghost from_gives = { λ _ r. r ≡ refusal.Memory };
+
+    fn from(_memory: Memory) -> Refusal {
+        Refusal::Memory
+    }
 }

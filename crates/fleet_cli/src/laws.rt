@@ -4,7 +4,7 @@ ghost use Rattle.fleet_base.specs.declared.geometry.PlannedVisit.{PlannedVisit};
 ghost use Rattle.fleet_cli.specs.declared.fault.Fault.{Fault};
 ghost use Rattle.command_words.specs.declared.command.Command.{Command};
 ghost use Rattle.fleet_cli.specs.Causes.{IsCause};
-ghost use Rattle.fleet_cli.specs.Due.{IsAsked};
+ghost use Rattle.fleet_cli.specs.Due.{IsAsked, IsMade};
 ghost use Rattle.fleet_base.specs.Plan.{AreRoutes};
 ghost use Rattle.fleet_base.specs.World.{World, Event, Run, NoCollision};
 ghost use Rattle.fleet_base.specs.declared.report.Report.{Report};
@@ -25,6 +25,19 @@ use station_api::Station;
 pub fn a_sound_plan_is_not_refused()
     ensures { (file : List ℕ → Option (List ℕ)) (words : List (List ℕ)) (command : Command) (papers : Papers) (routes : List (List PlannedVisit)) (fault : Fault) →
         IsAsked (record { tells = Unit {0}; file = file }) words command papers routes → IsCause (record { tells = Unit {0}; file = file }) ⊥ words fault → ⊥ }
+{}
+
+/// Over files that are told, words that ask for the text of a generated fleet or of a plan are not refused, unless the shelf
+/// failed.
+pub fn what_is_made_is_not_refused()
+    ensures { (file : List ℕ → Option (List ℕ)) (words : List (List ℕ)) (text : List ℕ) (fault : Fault) →
+        IsMade (record { tells = Unit {0}; file = file }) words text → IsCause (record { tells = Unit {0}; file = file }) ⊥ words fault → ⊥ }
+{}
+
+/// Over files that are told, words ask for one text at most.
+pub fn words_ask_for_one_text()
+    ensures { (file : List ℕ → Option (List ℕ)) (words : List (List ℕ)) (text other : List ℕ) →
+        IsMade (record { tells = Unit {0}; file = file }) words text → IsMade (record { tells = Unit {0}; file = file }) words other → text ≡ other }
 {}
 
 /// A new journal opens: for each window there is a life of one session that has sent the greeting of the first state.

@@ -2,9 +2,11 @@
 #![tactic(auto)]
 
 mod fault;
+mod generating;
 pub mod laws;
 mod lines;
 mod papers;
+mod planning;
 mod refusing;
 mod saying;
 mod session;

@@ -1,11 +1,12 @@
 // The lines of refusals.
 ghost use Rattle.std.specs.Prelude.{◌≡◌, ◌++◌, codes, OnOk};
-ghost use Rattle.fleet_cli.specs.Lines.{fields, fault_line, unsound_line, paper_word, map_word, plan_word, large_word};
+ghost use Rattle.fleet_cli.specs.Lines.{fields, fault_line, unsound_line, paper_word, map_word, scen_word, task_word, plan_word, large_word};
 
 use crate::fault::{Fault, Paper};
 use crate::writing::{push_fields, push_robots};
 use fleet_base::{Memory, Text, push_bytes};
-use map_text::MapKind;
+use map_text::{MapKind, ScenKind};
+use path_planner::TaskWhy;
 use plan_check::{Large, Unsound};
 use plan_text::PlanKind;
 
@@ -34,6 +35,15 @@ pub fn push_fault(out: &mut Text, fault: &Fault) -> Result<(), Memory>
         }
         Fault::Unsound(unsound) => push_unsound(out, unsound),
         Fault::Pairs { count } => push_line(out, b"fault pairs", &[*count]),
+        Fault::Scen(fault) => {
+            push_line(out, b"fault scen", &[u64::from(fault.line)])?;
+            push_words(out, b" ", scen_word(fault.kind))
+        }
+        Fault::BadTask { robot, why } => {
+            push_line(out, b"fault task", &[u64::from(*robot)])?;
+            push_words(out, b" ", task_word(*why))
+        }
+        Fault::NoPath { robot } => push_line(out, b"fault nopath", &[u64::from(*robot)]),
     }
 }
 
@@ -85,6 +95,7 @@ fn paper_word(paper: Paper) -> &'static [u8]
     match paper {
         Paper::Map => b"map",
         Paper::Plan => b"plan",
+        Paper::Scen => b"scen",
     }
 }
 
@@ -101,6 +112,29 @@ fn map_word(kind: MapKind) -> &'static [u8]
         MapKind::Row => b"row",
         MapKind::Char => b"char",
         MapKind::More => b"more",
+    }
+}
+
+fn scen_word(kind: ScenKind) -> &'static [u8]
+    ensures { result.now ≡ scen_word kind }
+{
+    match kind {
+        ScenKind::Version => b"version",
+        ScenKind::Fields => b"fields",
+        ScenKind::Number => b"number",
+        ScenKind::Empty => b"empty",
+    }
+}
+
+fn task_word(why: TaskWhy) -> &'static [u8]
+    ensures { result.now ≡ task_word why }
+{
+    match why {
+        TaskWhy::Size => b"size",
+        TaskWhy::Start => b"start",
+        TaskWhy::Goal => b"goal",
+        TaskWhy::SameStart => b"samestart",
+        TaskWhy::SameGoal => b"samegoal",
     }
 }
 

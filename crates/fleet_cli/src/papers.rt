@@ -87,7 +87,7 @@ pub fn fetch<H: Shelf>(
 }
 
 /// Reads a map.
-fn map_of(alloc: Global, bytes: &[u8]) -> Result<Grid, Refusal>
+pub fn map_of(alloc: Global, bytes: &[u8]) -> Result<Grid, Refusal>
     requires { length bytes.now ≤ 2 ^ 25 }
     ensures read { IfOk result (IsMapText bytes.now) }
     ensures refused { IfErr result (IsMapRefusal bytes.now) }

@@ -2,20 +2,23 @@
 ghost use Rattle.std.specs.Prelude.{◌≡◌, ◌∷◌, ◌++◌, [], ℕ, List, map, string_bytes, codes, IfOk, IfErr};
 ghost use Rattle.station_api.specs.Causes.{Counted, Rose};
 ghost use Rattle.fleet_cli.specs.Papers.{Files};
-ghost use Rattle.fleet_cli.specs.Tasks.{AsksFor, IsCalledFor, IsTask};
+ghost use Rattle.fleet_base.specs.declared.status.Status.TheVariants.{Done};
+ghost use Rattle.fleet_cli.specs.declared.task.Task.TheVariants.{Say};
+ghost use Rattle.fleet_cli.specs.Tasks.{IsCalledFor, IsTask};
 ghost use Rattle.fleet_cli.specs.Lines.{fields, fault_line};
-ghost use Rattle.fleet_cli.specs.Words.{NamesPapers};
 
 use crate::fault::{Fault, Refusal};
+use crate::generating::fleet_text;
 use crate::lines::push_fault;
 use crate::papers::{Papers, Sound, read_papers, sound_of};
+use crate::planning::plan_for;
 use crate::writing::push_fields;
 use command_words::{Command, WordsError, read_words};
 use fleet_base::{Memory, Status, Text, push_bytes};
 use station_api::Shelf;
 use std::alloc::Global;
 
-/// A line with its end, and the status of a command that answers it.
+/// A text, and the status of a command that answers it.
 #[derive(Debug, Drop)]
 pub struct Reply {
     pub status: Status,
@@ -25,7 +28,7 @@ pub struct Reply {
 /// What is left to do.
 #[derive(Drop)]
 pub enum Task<'w> {
-    /// A line is to be said.
+    /// A text is to be said.
     Say(Reply),
     /// A plan is to be run, with the journal of this name, this budget and this flag.
     Serve {
@@ -45,30 +48,8 @@ pub fn task_of<'w, H: Shelf>(
     ensures task { IfOk result (IsTask (record { tells = H.tells; file = H.file shelf.old }) (Rose (H.counts shelf.old).faults (H.counts shelf.new).faults) (map (λ w. string_bytes w) words.now)) }
     ensures counted { Counted (H.counts shelf.old) (H.counts shelf.new) }
 {
-    match papers_for(alloc, words, shelf) {
-        Ok(
-            (
-                Command::Run {
-                    journal,
-                    budget,
-                    quiet,
-                    ..
-                },
-                papers,
-            ),
-        ) => Ok(Task::Serve {
-            papers,
-            journal,
-            budget,
-            quiet,
-        }),
-        Ok((Command::Check { .. }, papers)) => {
-            let text = sound_text(alloc, sound_of(&papers))?;
-            Ok(Task::Say(Reply {
-                status: Status::Done,
-                text,
-            }))
-        }
+    match task_for(alloc, words, shelf) {
+        Ok(task) => Ok(task),
         Err(Refusal::Fault(fault)) => {
             let text = fault_text(alloc, &fault)?;
             Ok(Task::Say(Reply {
@@ -80,36 +61,60 @@ pub fn task_of<'w, H: Shelf>(
     }
 }
 
-/// The command of these words, and the plan that they name.
-fn papers_for<'w, H: Shelf>(
+/// What is to be done for these words, if they are not refused.
+fn task_for<'w, H: Shelf>(
     alloc: Global,
     words: &'w [String],
     shelf: &mut H,
-) -> Result<(Command<'w>, Papers), Refusal>
-    ensures asked { IfOk result (λ asked. AsksFor (record { tells = H.tells; file = H.file shelf.old }) (map (λ w. string_bytes w) words.now) asked.0 asked.1) }
+) -> Result<Task<'w>, Refusal>
+    ensures task { IfOk result (IsTask (record { tells = H.tells; file = H.file shelf.old }) (Rose (H.counts shelf.old).faults (H.counts shelf.new).faults) (map (λ w. string_bytes w) words.now)) }
     ensures refused { IfErr result (IsCalledFor (record { tells = H.tells; file = H.file shelf.old }) (Rose (H.counts shelf.old).faults (H.counts shelf.new).faults) (map (λ w. string_bytes w) words.now)) }
     ensures counted { Counted (H.counts shelf.old) (H.counts shelf.new) }
 {
     match read_words(alloc, words) {
-        Ok(command) => {
-            let (map_name, plan_name) = papers_named(&command);
-            match read_papers(alloc, shelf, map_name, plan_name) {
-                Ok(papers) => Ok((command, papers)),
-                Err(refusal) => Err(refusal),
-            }
+        Ok(Command::Check { map, plan }) => {
+            let papers = read_papers(alloc, shelf, map, plan)?;
+            Ok(said(sound_text(alloc, sound_of(&papers))?))
         }
+        Ok(
+            Command::Run {
+                map,
+                plan,
+                journal,
+                budget,
+                quiet,
+            },
+        ) => {
+            let papers = read_papers(alloc, shelf, map, plan)?;
+            Ok(Task::Serve {
+                papers,
+                journal,
+                budget,
+                quiet,
+            })
+        }
+        Ok(Command::Gen { seed, plan }) => Ok(said(fleet_text(alloc, seed, plan)?)),
+        Ok(
+            Command::Plan {
+                map,
+                scen,
+                robots,
+                horizon,
+            },
+        ) => Ok(said(plan_for(alloc, shelf, map, scen, robots, horizon)?)),
         Err(WordsError::Usage) => Err(Refusal::Fault(Fault::Usage)),
         Err(WordsError::Memory) => Err(Refusal::Memory),
     }
 }
 
-/// The names of the map and of the plan.
-fn papers_named<'w>(command: &Command<'w>) -> (&'w str, &'w str)
-    ensures { NamesPapers command.now result.0.now result.1.now }
+/// The text of a command that ends well.
+fn said<'w>(text: Text) -> Task<'w>
+    ensures { result ≡ Say (record { status = Done; text = text }) }
 {
-    match *command {
-        Command::Check { map, plan } | Command::Run { map, plan, .. } => (map, plan),
-    }
+    Task::Say(Reply {
+        status: Status::Done,
+        text,
+    })
 }
 
 /// The line of a plan that is sound.

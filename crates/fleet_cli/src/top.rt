@@ -5,8 +5,9 @@ ghost use Rattle.station_api.specs.Causes.{Counted, Rose};
 ghost use Rattle.fleet_recovery.specs.Papers.{Papers};
 ghost use Rattle.fleet_serve.specs.Told.{Told};
 ghost use Rattle.command_words.specs.declared.command.Command.{Command};
-ghost use Rattle.fleet_cli.specs.Due.{IsAsked};
-ghost use Rattle.fleet_cli.specs.Ends.{Call, EndsAs, MayOpen, IsSmooth};
+ghost use Rattle.fleet_cli.specs.Due.{IsAsked, IsMade};
+ghost use Rattle.fleet_cli.specs.Ends.{Call, EndsAs, MayOpen, IsSmooth, SendsIfMemory};
+ghost use Rattle.fleet_cli.specs.Runs.{Line};
 
 use crate::saying::say;
 use crate::session::run;
@@ -18,8 +19,13 @@ use std::alloc::Global;
 /// All that the program does. `check MAP PLAN` sends `sound ROBOTS VISITS PAIRS` if the plan can be carried out on the map.
 /// `run MAP PLAN JOURNAL [--budget N] [--quiet]`, with N from 0 to 4,096 and usually 128, carries it out: it opens the journal, or makes it, sends `ready N` and every release that has not
 /// arrived, and answers each report line. A plan that cannot be carried out has the line of its first fault, a journal that is
-/// not one of this plan the line that says so, and other words have `fault usage`. The words do not contain the program's own
-/// name. The answer is how the program ends.
+/// not one of this plan the line that says so, and other words have `fault usage`.
+///
+/// `gen SEED [--plan]` sends the canonical text of the map of a generated fleet, or of its plan. `plan MAP SCEN [--robots N]
+/// [--horizon H]`, with N from 1 to 256 and usually 32, and H from 1 to 4,096 and usually 1,024, sends that of the plan in turn for
+/// the first N tasks of the scenario, or the line that says why there is none.
+///
+/// The words do not contain the program's own name. The answer is how the program ends.
 pub fn fleet_main<H: Shelf, S: Source, T: Station>(
     alloc: Global,
     words: &[String],
@@ -46,6 +52,11 @@ pub fn fleet_main<H: Shelf, S: Source, T: Station>(
         → MayOpen command routes papers T.tells (T.clock station.old).seen
         → (Rose (H.counts shelf.old).faults (H.counts shelf.new).faults → ⊥) → (Rose (S.counts source.old).faults (S.counts source.new).faults → ⊥) → (Rose (T.counts station.old).faults (T.counts station.new).faults → ⊥)
         → IsSmooth command result }
+
+    // Where the words and the files, which the shelf tells, ask for a text, and nothing fails, that text is sent, unless memory runs out.
+    ensures made { (text : List ℕ) → H.tells → IsMade (record { tells = H.tells; file = H.file shelf.old }) (map (λ w. string_bytes w) words.now) text
+        → (Rose (H.counts shelf.old).faults (H.counts shelf.new).faults → ⊥) → (Rose (T.counts station.old).faults (T.counts station.new).faults → ⊥)
+        → SendsIfMemory (record { tells = T.tells; old = T.clock station.old; new = T.clock station.new; failed = Rose (T.counts station.old).faults (T.counts station.new).faults }) text result }
 
     // The counts never fall.
     ensures shelf { Counted (H.counts shelf.old) (H.counts shelf.new) }

@@ -1,4 +1,4 @@
-use Rattle.command_words.proofs.Deciding.{one_command}
+use Rattle.command_words.proofs.OneCommand.{one_command}
 use Rattle.command_words.proofs.laws.words_are_of_one_command.Goals as goal
 
 pub returns : goal.returns

@@ -4,6 +4,7 @@ use Rattle.station_api.specs.Causes.{Rose}
 use Rattle.fleet_cli.specs.Papers.{bytes_of}
 use Rattle.fleet_cli.specs.Ends.{Call}
 use Rattle.fleet_cli.proofs.Exclusion.{say_ends, ends_smooth, routes_are}
+use Rattle.fleet_cli.proofs.Made.{made_sent}
 use Rattle.fleet_cli.proofs.top.fleet_main.Goals as goal
 
 pub returns-in-Ok-Say-clause-ends : goal.returns-in-Ok-Say-clause-ends
@@ -20,7 +21,7 @@ returns-in-Ok-Say-clause-ends g c =
       };
     } in
     let task = rw c.in-Ok-Say.field-0-is at c.in-Ok-Say.ensures.task in
-    inl (record { takes = λ told. refl; stay = c.say.ensures.sides; ends = say_ends call c.in-Ok-Say.reply.status c.say.result task.0 c.as_slice.result.now task.1 (c.as_slice.ensures ∙ task.2) c.say.ensures.ends })
+    inl (record { takes = λ told. refl; stay = c.say.ensures.sides; ends = say_ends call c.in-Ok-Say.reply.status c.say.result c.in-Ok-Say.reply.text c.as_slice.result.now task c.as_slice.ensures c.say.ensures.ends })
 
 pub returns-in-Ok-Say-clause-complete : goal.returns-in-Ok-Say-clause-complete
 returns-in-Ok-Say-clause-complete g c command papers routes tells asked may fine taken sent =
@@ -36,6 +37,21 @@ returns-in-Ok-Say-clause-complete g c command papers routes tells asked may fine
       };
     } in
     ends_smooth call command papers routes c.say.result tells asked may fine taken sent (returns-in-Ok-Say-clause-ends g c)
+
+pub returns-in-Ok-Say-clause-made : goal.returns-in-Ok-Say-clause-made
+returns-in-Ok-Say-clause-made g c text tells made fine sent =
+    let call : Call = record {
+      words = map (λ w. string_bytes w) c.args.words.now;
+      files = record { tells = g.H.Shelf.tells; file = g.H.Shelf.file c.args.shelf.now };
+      shelf_failed = Rose (g.H.Shelf.counts c.args.shelf.now).faults (g.H.Shelf.counts c.task_of.new.shelf).faults;
+      talk = record {
+        input = record { tells = g.S.Source.tells; before = g.S.Source.left c.args.source.now; now = g.S.Source.left c.args.source.now };
+        last_read = g.S.Source.last c.args.source.now;
+        source_failed = Rose (g.S.Source.counts c.args.source.now).faults (g.S.Source.counts c.args.source.now).faults;
+        line = record { tells = g.T.Station.tells; old = g.T.Station.clock c.args.station.now; new = g.T.Station.clock c.say.new.station; failed = Rose (g.T.Station.counts c.args.station.now).faults (g.T.Station.counts c.say.new.station).faults };
+      };
+    } in
+    made_sent call text c.say.result tells made fine sent (returns-in-Ok-Say-clause-ends g c)
 
 pub run-requires-clause-sound : goal.run-requires-clause-sound
 run-requires-clause-sound g c =
@@ -72,3 +88,18 @@ returns-in-Ok-Serve-clause-complete g c command papers routes tells asked may fi
       };
     } in
     ends_smooth call command papers routes c.run.result tells asked may fine taken sent (returns-in-Ok-Serve-clause-ends g c)
+
+pub returns-in-Ok-Serve-clause-made : goal.returns-in-Ok-Serve-clause-made
+returns-in-Ok-Serve-clause-made g c text tells made fine sent =
+    let call : Call = record {
+      words = map (λ w. string_bytes w) c.args.words.now;
+      files = record { tells = g.H.Shelf.tells; file = g.H.Shelf.file c.args.shelf.now };
+      shelf_failed = Rose (g.H.Shelf.counts c.args.shelf.now).faults (g.H.Shelf.counts c.task_of.new.shelf).faults;
+      talk = record {
+        input = record { tells = g.S.Source.tells; before = g.S.Source.left c.args.source.now; now = g.S.Source.left c.run.new.source };
+        last_read = g.S.Source.last c.run.new.source;
+        source_failed = Rose (g.S.Source.counts c.args.source.now).faults (g.S.Source.counts c.run.new.source).faults;
+        line = record { tells = g.T.Station.tells; old = g.T.Station.clock c.args.station.now; new = g.T.Station.clock c.run.new.station; failed = Rose (g.T.Station.counts c.args.station.now).faults (g.T.Station.counts c.run.new.station).faults };
+      };
+    } in
+    made_sent call text c.run.result tells made fine sent (returns-in-Ok-Serve-clause-ends g c)
