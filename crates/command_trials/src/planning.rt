@@ -8,10 +8,12 @@ use trial_base::{CROSSING_MAP, Texts, end_of, shelf_of, station_of};
 const PLAN: &[&str] = &["plan", "M", "P"];
 
 const PAIR_MAP: &[u8] = b"type octile\nheight 1\nwidth 2\nmap\n..\n";
+
 const SQUARE_MAP: &[u8] = b"type octile\nheight 2\nwidth 2\nmap\n..\n..\n";
 
 const CROSSING_SCEN: &[u8] =
     b"version 1\n0\tm.map\t5\t3\t0\t1\t4\t1\t4\n0\tm.map\t5\t3\t2\t0\t2\t2\t2\n";
+
 const CROSSING_ANSWER: &[u8] =
     b"Agent 0: (1,0)->(1,1)->(1,2)->(1,3)->(1,4)\nAgent 1: (0,2)->(1,2)->(2,2)\n";
 

@@ -22,8 +22,7 @@ use Rattle.fleet_cli.specs.declared.fault.Fault.TheVariants.{Usage, Long, Unread
 use Rattle.fleet_cli.specs.declared.fault.Fault.TheVariants as fault
 use Rattle.command_words.specs.declared.command.Command.{Command}
 use Rattle.command_words.specs.declared.command.Command.TheVariants.{Check, Run, Gen, Plan}
-use Rattle.std.specs.Prelude.{codes}
-use Rattle.command_words.specs.Commands.{IsCommand, AreOne}
+use Rattle.command_words.specs.Commands.{AreOne}
 use Rattle.command_words.proofs.OneCommand.{one_command}
 use Rattle.fleet_cli.specs.Words.{IsCommandOn, NamesPapers, Checks, RunsWith, GeneratesWith, PlansWith}
 use Rattle.fleet_cli.specs.Papers.{Files, IsPaper, IsLong, HasMap, HasPlan, IsSoundPaper}
@@ -234,7 +233,7 @@ ends_smooth call command papers routes end t a may fine taken sent (inr r) = run
 said_text : (call : Call) (end : Status) (text : List ℕ) → IsText call end text → Sends (sent_on call.talk.line) text → TextEnds call end
 said_text call end text (a_check done command papers routes checks asked is) sends = subst (TextEnds call) (sym done) (text, a_check refl command papers routes checks asked is, sends)
 said_text call end text (a_made_text done made) sends = subst (TextEnds call) (sym done) (text, a_made_text refl made, sends)
-said_text call end text (a_refusal fault cause e is) sends = subst (TextEnds call) (sym e) (of_fault fault cause is)
+said_text call end text (a_refusal reason cause e is) sends = subst (TextEnds call) (sym e) (of_fault reason cause is)
   where
     of_fault : (f : Fault) → IsCause call.files call.shelf_failed call.words f → text ≡ fault_line f ++ 10 ∷ [] → TextEnds call (status_of f)
     of_fault Usage k l = (text, a_refusal Usage k refl l, sends)

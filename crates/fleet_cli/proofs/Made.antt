@@ -1,5 +1,5 @@
 -- A text that words ask for is one, and there is no refusal beside it.
-use Rattle.std.proofs.Common.{ℕ, Bool, true, false, ◌≡◌, ◌⊎◌, List, [], ◌∷◌, ◌++◌, sym, ap, ◌∙◌, subst, inl, inr, take, refl, Some}
+use Rattle.std.proofs.Common.{ℕ, Bool, true, false, ◌≡◌, ◌⊎◌, List, ◌++◌, sym, ap, ◌∙◌, subst, inl, inr, take, refl}
 use Rattle.fleet_base.specs.declared.geometry.Cell.{Cell}
 use Rattle.fleet_base.specs.declared.geometry.PlannedVisit.{PlannedVisit}
 use Rattle.fleet_base.specs.declared.status.Status.{Status}
@@ -31,8 +31,8 @@ use Rattle.fleet_cli.specs.declared.fault.Fault.TheVariants.{Usage, Long, Unread
 use Rattle.fleet_cli.specs.declared.fault.Fault.TheVariants as fault
 use Rattle.fleet_cli.specs.Words.{GeneratesWith, PlansWith}
 use Rattle.fleet_cli.specs.Papers.{Files}
-use Rattle.fleet_cli.specs.Generating.{AsksForFleet, IsFleetText}
-use Rattle.fleet_cli.specs.Planning.{AsksForPlan, HasTasks, IsPlanFor, IsUnplanned}
+use Rattle.fleet_cli.specs.Generating.{IsFleetText}
+use Rattle.fleet_cli.specs.Planning.{HasTasks, IsPlanFor, IsUnplanned}
 use Rattle.fleet_cli.specs.Causes.{IsPlanCause, IsTaskCause, IsCause}
 use Rattle.fleet_cli.specs.Due.{IsAsked, IsMade, a_fleet, a_plan, IsDue, a_check, a_made_text, a_refusal}
 use Rattle.fleet_cli.specs.Runs.{sent_on}

@@ -65,12 +65,7 @@ fn first_of(alloc: Global, tasks: &TaskList, count: usize) -> Result<TaskList, M
 }
 
 /// Plans a path for each robot in turn.
-fn plan_of(
-    alloc: Global,
-    grid: &Grid,
-    tasks: &TaskList,
-    horizon: u32,
-) -> Result<RawPlan, Refusal>
+fn plan_of(alloc: Global, grid: &Grid, tasks: &TaskList, horizon: u32) -> Result<RawPlan, Refusal>
     requires robots { (1 ≤ length tasks.now) × (length tasks.now ≤ 256) }
     requires horizon { (1 ≤ horizon) × (horizon ≤ 4096) }
     ensures good { OnOk result (AreGood grid.now tasks.now) }

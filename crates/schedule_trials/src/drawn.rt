@@ -9,9 +9,7 @@ use fleet_base::{Fleet, PairId, Side, Visit};
 use fleet_core::{Judged, judge};
 use longest_path::Ticks;
 use plan_graph::{Oriented, PlanGraph, is_open};
-use plan_scenes::{
-    Dice, Event, SQUARE, arrive, delay, drawn_walks, first, step, text_of,
-};
+use plan_scenes::{Dice, Event, SQUARE, arrive, delay, drawn_walks, first, step, text_of};
 use std::alloc::Global;
 use std::test::Fail;
 

@@ -49,7 +49,12 @@ fn no_arrival_leaves_out_a_visit(rt: HostRuntime) -> Result<(), Fail> {
 }
 
 /// The fleet with a report applied that must be accepted.
-fn heard_by(alloc: Global, graph: &PlanGraph, fleet: &Fleet, report: &Report) -> Result<Fleet, Fail> {
+fn heard_by(
+    alloc: Global,
+    graph: &PlanGraph,
+    fleet: &Fleet,
+    report: &Report,
+) -> Result<Fleet, Fail> {
     match judge(graph, fleet, report) {
         Judged::Accept if fleet.count() < 1 << 62 => Ok(heard(alloc, fleet, report)?),
         _ => Err(Fail::from("an accepted report")),

@@ -4,9 +4,7 @@ ghost use Rattle.fleet_base.specs.Rules.{IsFleetState};
 
 use fleet_base::Fleet;
 use plan_graph::PlanGraph;
-use plan_scenes::{
-    CORRIDOR, Dice, SQUARE, Texts, arrive, drawn_walks, first_ahead, step, text_of,
-};
+use plan_scenes::{CORRIDOR, Dice, SQUARE, Texts, arrive, drawn_walks, first_ahead, step, text_of};
 use std::alloc::Global;
 use std::test::Fail;
 

@@ -1,4 +1,4 @@
-use Rattle.std.proofs.Common.{◌≡◌, ◌∙◌, sym, ap, subst, arith, ℕ, List, Bool}
+use Rattle.std.proofs.Common.{◌≡◌, ◌∙◌, sym, ap, subst, arith, Bool}
 use Rattle.fleet_base.specs.Grid.{OccupancyGrid}
 use Rattle.map_text.specs.MapText.{map_text_of}
 use Rattle.fleet_cli.specs.Generating.{IsFleetText}

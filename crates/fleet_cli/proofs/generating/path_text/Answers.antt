@@ -1,4 +1,4 @@
-use Rattle.std.proofs.Common.{◌≡◌, ◌∙◌, ap, subst, Err}
+use Rattle.std.proofs.Common.{◌∙◌, ap, subst, Err}
 use Rattle.std.specs.List.{AllByRecursion}
 use Rattle.plan_text.specs.PlanText.{IsWritable}
 use Rattle.plan_text.specs.PlanErrors.{IsFirstWide, WideIs}

@@ -18,8 +18,8 @@ returns-in_ok-sound_text-in-Ok-Check-clause-task g c =
     let command = rw c.in-Ok-Check.field-0-is at c.in-Ok-Check.ensures.command in
     let papers = c.in_ok-papers-in-Ok-Check.papers in
     rw c.said.ensures (a_check refl (Check c.in-Ok-Check.map c.in-Ok-Check.plan) (bytes_of papers) papers.plan tt
-      (record { map_name = c.in-Ok-Check.map.now; plan_name = c.in-Ok-Check.plan.now; words_are = record { words_are = command; papers_are = (refl, refl) }; sound = c.in_ok-papers-in-Ok-Check.ensures.sound })
-      (c.in_ok-sound_text-in-Ok-Check.ensures ∙ ap (λ (t : List ℕ). t ++ 10 ∷ []) (sound_counted papers.plan c.sound_of.result c.sound_of.ensures)))
+    (record { map_name = c.in-Ok-Check.map.now; plan_name = c.in-Ok-Check.plan.now; words_are = record { words_are = command; papers_are = (refl, refl) }; sound = c.in_ok-papers-in-Ok-Check.ensures.sound })
+    (c.in_ok-sound_text-in-Ok-Check.ensures ∙ ap (λ (t : List ℕ). t ++ 10 ∷ []) (sound_counted papers.plan c.sound_of.result c.sound_of.ensures)))
 
 pub returns-in_ok-fleet_text-in-Ok-Gen-clause-task : goal.returns-in_ok-fleet_text-in-Ok-Gen-clause-task
 returns-in_ok-fleet_text-in-Ok-Gen-clause-task g c =
@@ -30,4 +30,4 @@ pub returns-in_ok-plan_for-in-Ok-Plan-clause-task : goal.returns-in_ok-plan_for-
 returns-in_ok-plan_for-in-Ok-Plan-clause-task g c =
     let command = rw c.in-Ok-Plan.field-0-is at c.in-Ok-Plan.ensures.command in
     rw c.said-in-Ok-Plan.ensures (a_made_text refl (a_plan c.in-Ok-Plan.map.now c.in-Ok-Plan.scen.now c.in-Ok-Plan.robots c.in-Ok-Plan.horizon
-      (record { command = Plan c.in-Ok-Plan.map c.in-Ok-Plan.scen c.in-Ok-Plan.robots c.in-Ok-Plan.horizon; words_are = command; plans = (refl, refl, refl, refl) }) c.in_ok-plan_for-in-Ok-Plan.ensures.planned))
+    (record { command = Plan c.in-Ok-Plan.map c.in-Ok-Plan.scen c.in-Ok-Plan.robots c.in-Ok-Plan.horizon; words_are = command; plans = (refl, refl, refl, refl) }) c.in_ok-plan_for-in-Ok-Plan.ensures.planned))

@@ -1,4 +1,4 @@
-use Rattle.std.proofs.Common.{◌∙◌, inl, inr, refl, map}
+use Rattle.std.proofs.Common.{inl, inr, refl, map}
 use Rattle.std.specs.Prelude.{string_bytes}
 use Rattle.station_api.specs.Causes.{Rose}
 use Rattle.fleet_cli.specs.Papers.{bytes_of}
