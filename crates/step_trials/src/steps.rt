@@ -129,9 +129,12 @@ const ROBOTS_FOLLOW_IN_A_ROW: Played = Played {
     ],
 };
 
+/// The map of the crossing.
+const CROSSROADS: &[u8] = b"type octile\nheight 3\nwidth 5\nmap\n@@.@@\n.....\n@@.@@\n";
+
 const A_ROBOT_GOES_TWICE_OVER_ONE_CELL: Played = Played {
     texts: (
-        CROSSING.0,
+        CROSSROADS,
         b"Agent 0: (1,1)->(1,2)->(1,3)->(1,2)->(1,1)\nAgent 1: (0,2)->(0,2)->(0,2)->(0,2)->(1,2)->(2,2)\n",
     ),
     window: 1,
@@ -146,7 +149,7 @@ const A_ROBOT_GOES_TWICE_OVER_ONE_CELL: Played = Played {
 
 const A_GOAL_IS_ENTERED_LAST: Played = Played {
     texts: (
-        CROSSING.0,
+        CROSSROADS,
         b"Agent 0: (0,2)->(0,2)->(1,2)\nAgent 1: (1,1)->(1,2)->(1,3)\n",
     ),
     window: 1,
