@@ -1,5 +1,0 @@
-use Rattle.std.proofs.Common.{◌≡◌}
-use Rattle.schedule_trials.proofs.decisions.follow.Given as goal
-
-abbrev pub invariant-loop : goal.invariant-loop
-invariant-loop l = (l.live.graph ≡ l.graph) × (l.live.state ≡ l.fleet)

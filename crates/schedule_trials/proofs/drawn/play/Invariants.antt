@@ -1,5 +1,0 @@
-use Rattle.fleet_base.specs.Rules.{IsFleetState}
-use Rattle.schedule_trials.proofs.drawn.play.Given as goal
-
-abbrev pub invariant-loop : goal.invariant-loop
-invariant-loop l = IsFleetState l.graph l.fleet
