@@ -1,0 +1,16 @@
+pub mod Ways
+pub mod Sides
+pub mod Forcings
+pub mod Suspects
+pub mod Numbering
+pub mod Conflicts
+pub mod Candidates
+pub mod Bounds
+pub mod Views
+pub mod Makers
+pub mod ForcingSteps
+pub mod Nodes
+pub mod Inside
+pub mod Undoing
+pub mod Weighed
+pub mod Towards

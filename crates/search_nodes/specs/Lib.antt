@@ -1,0 +1,6 @@
+pub mod Rooms
+pub mod Making
+pub mod Kept
+pub mod Forcing
+pub mod Weighing
+pub mod Settling
