@@ -1,0 +1,5 @@
+pub mod Lines
+pub mod Nodes
+pub mod Turns
+pub mod KeptLine
+pub mod Going
