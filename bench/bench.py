@@ -1,16 +1,18 @@
 #!/usr/bin/env python3
 """Times `fleet check` on large files of its own making, beside `cksum` and `wc -w` of the same files, rankings, schedules,
-checks of certificates, plans in turn, sessions, the opening of journals, and what it costs to keep a report.
+checks of certificates, plans in turn, searches for a cheaper order, sessions, the opening of journals, and what it costs to
+keep a report.
 
-Usage: bench/bench.py FLEET RANK_BENCH CERT_BENCH PLAN_BENCH [TABLE..]
+Usage: bench/bench.py FLEET RANK_BENCH CERT_BENCH PLAN_BENCH SEARCH_BENCH [TABLE..]
 
-With names of tables (check, rank, session, kept, journal, cert, plan) it makes these alone. The last one builds its yardstick by
-`rustc`.
+With names of tables (check, rank, session, kept, journal, cert, plan, search) it makes these alone. That of plans builds its
+yardstick by `rustc`.
 
 Each row of the first table is one pair of files, each row of the second one plan. A time is the least of nine runs, as the
 processor time of the process; the memory is the greatest resident size. The tables are written in Markdown.
 """
 import os
+import re
 import struct
 import subprocess
 import sys
@@ -360,8 +362,50 @@ def plan_table(program):
             plan_row(program, yardstick, *row)
 
 
+SEARCH_SEEDS = range(1, 5)
+SEARCH_EXTRA = 20
+SEARCH_BUDGET = 128
+SEARCHES = 20
+SEARCH_SCHEDULES = 1000
+SEARCH_RUNS = 3
+
+
+def searched(program, seed, robot, searches, schedules):
+    """The processor seconds of one call of the program, and the numbers that it wrote."""
+    words = (seed, robot, SEARCH_EXTRA, SEARCH_BUDGET, searches, schedules)
+    seconds, _, answer = least([program, *map(str, words)], SEARCH_RUNS)
+    return seconds, [int(number) for number in re.findall("[0-9]+", answer)]
+
+
+def search_row(program, seed):
+    """One delay of each robot in turn: what a search takes, and what it takes for each node that it makes."""
+    spent, nodes, schedule, cheaper = [], 0, 0.0, 0
+    for robot in range(32):
+        before, _ = searched(program, seed, robot, 0, 1)
+        schedule += (searched(program, seed, robot, 0, 1 + SEARCH_SCHEDULES)[0] - before) / SEARCH_SCHEDULES / 32
+        seconds, (pairs, visits, _, branches, kept, cost) = searched(program, seed, robot, SEARCHES, 1)
+        spent.append((seconds - before) / SEARCHES)
+        nodes += 2 * branches + 1
+        cheaper += cost < kept
+    spent.sort()
+    node = 1e6 * sum(spent) / nodes
+    print(
+        f"| {seed} | {pairs} | {visits} | {1e6 * schedule:.1f} | {1e3 * spent[16]:.2f} | {1e3 * spent[-1]:.2f} "
+        f"| {nodes:,} | {node:.1f} | {node / schedule / 1e6:.2f} | {cheaper} |",
+        flush=True,
+    )
+
+
+def search_table(program):
+    print("| seed | pairs | visits | us of a schedule | ms of a search, median | at worst | nodes in all | us a node | in schedules | cheaper |")
+    print("|---|---|---|---|---|---|---|---|---|---|")
+    for seed in SEARCH_SEEDS:
+        search_row(program, seed)
+
+
 def main():
-    fleet, rank_bench, cert_bench, plan_bench = (os.path.abspath(path) for path in sys.argv[1:5])
+    programs = (os.path.abspath(path) for path in sys.argv[1:6])
+    fleet, rank_bench, cert_bench, plan_bench, search_bench = programs
     tables = {
         "check": lambda: check_table(fleet),
         "rank": lambda: rank_table(rank_bench),
@@ -370,8 +414,9 @@ def main():
         "journal": lambda: journal_table(fleet),
         "cert": lambda: cert_table(cert_bench),
         "plan": lambda: plan_table(plan_bench),
+        "search": lambda: search_table(search_bench),
     }
-    for name in sys.argv[5:] or tables:
+    for name in sys.argv[6:] or tables:
         tables[name]()
         print(flush=True)
 
