@@ -1,3 +1,4 @@
+pub mod Choices
 pub mod Counting
 pub mod Decided
 pub mod Fronts
@@ -8,6 +9,8 @@ pub mod Pieces
 pub mod Releases
 pub mod SessionWorld
 pub mod StepMoments
+pub mod Switched
+pub mod Telling
 pub mod Texts
 pub mod TurnLaws
 pub mod TurnMoments

@@ -1,12 +1,11 @@
 -- The moments of a step: its entry is kept, and then its text is sent.
 use Rattle.std.specs.Prelude.{IsSome}
-use Rattle.std.proofs.Common.{Some, Ok, Err, ◌^◌, ◌<◌, ℕ, ◌≡◌, ◌+◌, ◌≤◌, List, [], ◌∷◌, ◌++◌, take, drop, length, refl, sym, ap, ◌∙◌, subst, inl, inr, arith, append_assoc, append-nil}
+use Rattle.std.proofs.Common.{Option, Some, None, Ok, Err, ◌^◌, ◌<◌, ℕ, ◌≡◌, ◌+◌, ◌≤◌, List, [], ◌∷◌, ◌++◌, take, drop, length, refl, sym, ap, ◌∙◌, subst, inl, inr, arith, append_assoc, append-nil}
 use Rattle.std.proofs.lemmas.List.{take-append-drop, append_cancel_left, take_all}
 use Rattle.fleet_base.specs.declared.geometry.PlannedVisit.{PlannedVisit}
 use Rattle.fleet_base.specs.Order.{graph_of}
 use Rattle.fleet_base.specs.State.{FleetState}
 use Rattle.fleet_base.specs.Rules.{IsFleetState}
-use Rattle.fleet_base.specs.declared.order.PairId.{PairId}
 use Rattle.fleet_base.specs.declared.report.Report.{Report}
 use Rattle.report_text.specs.ReportLine.{IsReportLine}
 use Rattle.station_api.specs.Scene.{Scene, Extends, side_of, other_of}
@@ -26,6 +25,7 @@ use Rattle.fleet_recovery.specs.Image.{HoldsState}
 use Rattle.fleet_recovery.specs.Opening.{StandsWith, IsAtRest}
 use Rattle.fleet_recovery.proofs.Following.{means-push}
 use Rattle.fleet_recovery.proofs.Sending.{holds_sending, stands_hold, rest_stands}
+use Rattle.fleet_serve.specs.declared.outcome.Settings.{Settings}
 use Rattle.fleet_serve.specs.declared.deciding.Decision.TheVariants.{Say, Keep}
 use Rattle.fleet_serve.specs.declared.outcome.StepFault.TheVariants.{Station}
 use Rattle.fleet_serve.specs.declared.outcome.Turn.{Turn}
@@ -34,12 +34,14 @@ use Rattle.fleet_serve.specs.Lines.{text_of}
 use Rattle.fleet_serve.specs.Turns.{Point, TurnMade, entered}
 use Rattle.fleet_serve.specs.Serving.{Course, course, point_of, IsServing, Moments, Makes, StepLeaves}
 use Rattle.fleet_serve.specs.Deciding.{HoldsEither, IsDecided, IsReady}
-use Rattle.fleet_serve.proofs.Decided.{entry_length, entry_fits}
+use Rattle.journal_frame.specs.Entries.{entry_payload}
+use Rattle.fleet_serve.proofs.Decided.{entry_fits}
+use Rattle.fleet_serve.proofs.Moments.{sending_self, sending_on}
 use Rattle.fleet_serve.proofs.TurnMoments.{serving_none, serving_one, still, unsent_so_far}
 
 -- nothing happens in a call that changes nothing
-pub resting : (routes : List (List PlannedVisit)) (papers : Papers) (limit : ℕ) (x : FleetState) (journal : Standing) (tells : Type 0) (clock : Clock) (turns : List TurnMade) → Moments (course routes papers limit x journal x journal tells clock clock) turns
-resting routes papers limit x journal tells clock turns told rest =
+pub resting : (routes : List (List PlannedVisit)) (papers : Papers) (settings : Settings) (x : FleetState) (journal : Standing) (tells : Type 0) (clock : Clock) (turns : List TurnMade) → Moments (course routes papers settings x journal x journal tells clock clock) turns
+resting routes papers settings x journal tells clock turns told rest =
     still (IsServing routes papers (point_of x journal) turns clock.seen.sent) clock
     (serving_none routes papers (point_of x journal) turns clock.seen.sent clock.seen (stands_hold routes papers journal x clock.seen (rest_stands routes papers journal x clock rest)) refl) rest.kept
 
@@ -94,14 +96,18 @@ module _ (routes : List (List PlannedVisit)) (papers : Papers) (payload : List �
 is_some : (e : Entry) → IsSome (Some e)
 is_some e = refl
 
+-- a turn with an entry is not one without
+has_entry : (e : Entry) (made : Option Entry) → made ≡ Some e → made ≡ None → ⊥
+has_entry e made some none = let is : Some e ≡ None = sym some ∙ none in cc
+
 same_point : (p q : Point) → p.state ≡ q.state → p.place ≡ q.place → p ≡ q
 same_point p q state place = ap (λ (x : FleetState). let r : Point = record { state = x; place = p.place } in r) state ∙ ap (λ (n : ℕ). let r : Point = record { state = q.state; place = n } in r) place
 
 -- ---- a turn whose entry is kept, if it has one, and whose text is to be sent
 
-module _ (routes : List (List PlannedVisit)) (papers : Papers) (limit : ℕ) (x : FleetState) (journal : Standing) (tells : Type 0) (old : Clock) (line text : List ℕ) (rules : IsFleetState (graph_of routes) x) (stands : tells → StandsWith routes papers journal x old.seen) where
+module _ (routes : List (List PlannedVisit)) (papers : Papers) (settings : Settings) (x : FleetState) (journal : Standing) (tells : Type 0) (old : Clock) (line text : List ℕ) (rules : IsFleetState (graph_of routes) x) (stands : tells → StandsWith routes papers journal x old.seen) where
   -- a turn that changes nothing
-  pub said_ready : (said : Turn) → IsDecided routes limit (point_of x journal) line text (Say said) → IsReady routes papers limit x x journal journal tells old old line text said
+  pub said_ready : (said : Turn) → IsDecided routes settings (point_of x journal) line text (Say said) → IsReady routes papers settings x x journal journal tells old old line text said
   said_ready said (turn, s, ends) = record {
     turn = turn;
     line_is = s.line_is;
@@ -110,48 +116,54 @@ module _ (routes : List (List PlannedVisit)) (papers : Papers) (limit : ℕ) (x 
     ends = ends;
     text_is = s.text_is;
     rules = rules;
-    moments = resting routes papers limit x journal tells old (turn ∷ []);
+    moments = resting routes papers settings x journal tells old (turn ∷ []);
     stands = stands;
     rests = λ told rest. rest;
     unsent = λ told. refl;
+    untouched = λ told none. sending_self old;
   }
 
   -- a turn whose entry is kept
-  module _ (entry : Entry) (frame : List ℕ) (decided : IsDecided routes limit (point_of x journal) line text (Keep entry frame)) where
+  module _ (entry : Entry) (frame : List ℕ) (decided : IsDecided routes settings (point_of x journal) line text (Keep entry frame)) where
     abbrev turn : TurnMade
     turn = decided.1
 
     abbrev payload : List ℕ
     payload = decided.6.frame_is.0
 
+    -- it makes the step of the report
+    entered_step : Step (graph_of routes) x decided.0 entry.switched entry.releases turn.after.state
+    entered_step = let e = decided.6.enters in subst (λ (n : Entry). Step (graph_of routes) x decided.0 n.switched n.releases turn.after.state) decided.6.same e.step
+
     -- its frame is short, and there is room for it
     pub frame_length : length frame ≡ 5 + length payload
     frame_length = ap length decided.6.frame_is.2 ∙ length-frame_text payload
 
     pub frame_short : length frame < 2 ^ 32
-    frame_short = omega (arith, frame_length, (entry_length payload decided.0 decided.6.frame_is.1).1)
+    frame_short = decided.6.frame_is.3
 
     pub frame_fits : journal.place + length frame + 1 < 2 ^ 64
-    frame_fits = omega (arith, frame_length, decided.5, entry_fits (graph_of routes) limit journal.place x payload decided.0 decided.6.frame_is.1 decided.3)
+    frame_fits = omega (arith, frame_length, decided.5, entry_fits (graph_of routes) settings.side_limit journal.place x payload decided.0 entry.switched entry.releases turn.after.state decided.6.frame_is.1 entered_step decided.3)
 
     -- its entry leads on
     pub entry_leads : Leads (graph_of routes) x payload turn.after.state
-    entry_leads = record { entry = record { report = decided.0; switched = [] }; releases = decided.6.enters.entry.releases; is_entry = decided.6.frame_is.1; names = refl; step = decided.6.enters.step }
+    entry_leads = record { entry = record { report = decided.0; switched = entry.switched }; releases = entry.releases; is_entry = decided.6.frame_is.1; step = entered_step }
 
     pub entry_step : Step (graph_of routes) x entry.report entry.switched entry.releases turn.after.state
     entry_step =
         let e = decided.6.enters in
         subst (λ (n : Entry). Step (graph_of routes) x n.report n.switched n.releases turn.after.state) decided.6.same
-        (subst (λ (r : Report). Step (graph_of routes) x r e.entry.switched e.entry.releases turn.after.state) (sym e.report_is) (subst (λ (qs : List PairId). Step (graph_of routes) x decided.0 qs e.entry.releases turn.after.state) (sym e.switches_none) e.step))
+        (subst (λ (r : Report). Step (graph_of routes) x r e.entry.switched e.entry.releases turn.after.state) (sym e.report_is) e.step)
 
     -- what is left when it is kept
     pub kept_ready : (y : FleetState) (later : Standing) (mid : Clock) (count : ℕ) → y ≡ turn.after.state → later.place ≡ journal.place + length frame → count ≡ y.count
         → (tells → StandsWith routes papers later turn.after.state mid.seen) → (tells → IsAtRest routes papers journal x old → IsAtRest routes papers later turn.after.state mid)
         → (tells → IsAtRest routes papers journal x old → LeavesOnly (HoldsEither routes papers x turn.after.state) old mid) → (tells → mid.seen.sent ≡ old.seen.sent)
-        → IsReady routes papers limit x y journal later tells old mid line text (Done count)
+        → IsReady routes papers settings x y journal later tells old mid line text (Done count)
     kept_ready y later mid count state place number stood rested run quiet =
         let e = decided.6.enters in
-        let at : turn.after.place ≡ later.place = omega (arith, e.place_is, place, frame_length, (entry_length payload decided.0 decided.6.frame_is.1).0) in
+        let long : length (entry_payload decided.0 e.entry.switched) ≡ length payload = ap (λ (n : Entry). length (entry_payload decided.0 n.switched)) decided.6.same ∙ sym (ap length decided.6.frame_is.1.payload_is) in
+        let at : turn.after.place ≡ later.place = omega (arith, e.place_is, place, frame_length, long) in
         let some : IsSome turn.entry = rw e.entry_is (is_some e.entry) in
         record {
           turn = turn;
@@ -165,12 +177,13 @@ module _ (routes : List (List PlannedVisit)) (papers : Papers) (limit : ℕ) (x 
           stands = λ told. subst (λ (z : FleetState). StandsWith routes papers later z mid.seen) (sym state) (stood told);
           rests = λ told rest. subst (λ (z : FleetState). IsAtRest routes papers later z mid) (sym state) (rested told rest);
           unsent = quiet;
+          untouched = λ told none. absurd (has_entry e.entry turn.entry e.entry_is none);
         }
 
-module _ (routes : List (List PlannedVisit)) (papers : Papers) (limit : ℕ) (x y : FleetState) (journal later : Standing) (tells : Type 0) (old mid new : Clock) (line text bytes : List ℕ) (said : Turn)
-    (ready : IsReady routes papers limit x y journal later tells old mid line text said) (same : bytes ≡ text) (sending : tells → IsSending mid new) where
+module _ (routes : List (List PlannedVisit)) (papers : Papers) (settings : Settings) (x y : FleetState) (journal later : Standing) (tells : Type 0) (old mid new : Clock) (line text bytes : List ℕ) (said : Turn)
+    (ready : IsReady routes papers settings x y journal later tells old mid line text said) (same : bytes ≡ text) (sending : tells → IsSending mid new) where
   abbrev s : Course
-  s = course routes papers limit x journal y later tells old new
+  s = course routes papers settings x journal y later tells old new
 
   makes : (tells → (n : ℕ) × (new.seen.sent ≡ mid.seen.sent ++ take n bytes)) → Makes s line ready.turn
   makes part = record {
@@ -181,6 +194,7 @@ module _ (routes : List (List PlannedVisit)) (papers : Papers) (limit : ℕ) (x 
         let holds = subst (λ (q : Point). HoldsState routes papers mid.seen q.state) (sym ready.leads) (stands_hold routes papers later y mid.seen (ready.stands told)) in
         goes_on (IsServing routes papers (point_of x journal) (ready.turn ∷ []) old.seen.sent) old mid new (ready.moments told rest)
         (sending_moments routes papers (point_of x journal) ready.turn old.seen.sent mid new (ready.rests told rest).kept holds (ready.unsent told) (sending told) p.0 (p.1 ∙ ap (λ (l : List ℕ). mid.seen.sent ++ take p.0 l) (same ∙ ready.text_is)));
+    stays = λ told none. sending_on old mid new (ready.untouched told none) (sending told);
   }
 
   -- the text is sent whole
@@ -202,15 +216,16 @@ module _ (routes : List (List PlannedVisit)) (papers : Papers) (limit : ℕ) (x 
   )
 
 -- the entry was not kept: nothing is sent
-pub step_broken : (routes : List (List PlannedVisit)) (papers : Papers) (limit : ℕ) (x y : FleetState) (journal later : Standing) (tells : Type 0) (old mid : Clock) (line text : List ℕ) (entry : Entry) (frame : List ℕ)
-    (decided : IsDecided routes limit (point_of x journal) line text (Keep entry frame)) → (tells → IsAtRest routes papers journal x old → LeavesOnly (HoldsEither routes papers x decided.1.after.state) old mid) → (tells → mid.seen.sent ≡ old.seen.sent)
-    → StepLeaves (course routes papers limit x journal y later tells old mid) line (Err Station)
-step_broken routes papers limit x y journal later tells old mid line text entry frame decided run quiet = (
+pub step_broken : (routes : List (List PlannedVisit)) (papers : Papers) (settings : Settings) (x y : FleetState) (journal later : Standing) (tells : Type 0) (old mid : Clock) (line text : List ℕ) (entry : Entry) (frame : List ℕ)
+    (decided : IsDecided routes settings (point_of x journal) line text (Keep entry frame)) → (tells → IsAtRest routes papers journal x old → LeavesOnly (HoldsEither routes papers x decided.1.after.state) old mid) → (tells → mid.seen.sent ≡ old.seen.sent)
+    → StepLeaves (course routes papers settings x journal y later tells old mid) line (Err Station)
+step_broken routes papers settings x y journal later tells old mid line text entry frame decided run quiet = (
   decided.1,
   record {
     line_is = decided.4;
     is_turn = entered decided.0 (subst (λ (l : List ℕ). IsReportLine l decided.0) (sym decided.4) decided.2) decided.3 decided.6.enters;
     moments = λ told rest. keeping_moments routes papers (point_of x journal) decided.1 old mid (run told rest) (quiet told);
+    stays = λ told none. absurd (has_entry decided.6.enters.entry decided.1.entry decided.6.enters.entry_is none);
   },
   λ told. (0, quiet told ∙ sym (append-nil old.seen.sent)),
 )

@@ -1,4 +1,6 @@
+pub mod Chosen
 pub mod Deciding
+pub mod Kits
 pub mod Lines
 pub mod Marks
 pub mod Reading

@@ -35,6 +35,7 @@ pub fn greet<T: Station>(
     ensures counted { Counted (T.counts station.old) (T.counts station.new) }
     ensures cause { IsErrOf result StepFault.Station → IsToBlame (T.counts station.old) (T.counts station.new) }
     ensures memory { IsErrOf result StepFault.Memory → station.new ≡ station.old }
+    ensures room { kit.new.room ≡ kit.old.room }
 {
     match greeting_text(alloc, plan, fleet) {
         Ok(text) => kit.text = text,

@@ -3,6 +3,7 @@ ghost use Rattle.std.specs.Prelude.{◌≡◌, ◌≤◌, ◌∷◌, [], ℕ, Li
 ghost use Rattle.fleet_base.specs.Order.{graph_of};
 ghost use Rattle.fleet_base.specs.Rules.{IsFleetState};
 ghost use Rattle.station_api.specs.Causes.{Counted, IsToBlame};
+ghost use Rattle.search_nodes.specs.Rooms.{IsRoomFor};
 ghost use Rattle.fleet_serve.specs.Told.{Told, Takes, IsAtEnd};
 ghost use Rattle.fleet_recovery.specs.Opening.{StandsWith, IsAtRest};
 ghost use Rattle.fleet_recovery.specs.Papers.{papers_in};
@@ -41,12 +42,14 @@ pub fn serve<S: Source, T: Station>(
 ) -> Result<(), ServeFault>
     requires graph { graph.now ≡ graph_of plan.now }
     requires state { IsFleetState graph.now fleet.old }
+    requires room { IsRoomFor graph.now kit.old.room }
     requires stands { T.tells → StandsWith plan.now (papers_in papers.now) journal.old fleet.old (T.clock station.old).seen }
 
     // The turns of the lines are made. At each moment a stop leaves sides that hold the state after some of them, and nothing of
     // an entry's text is sent before the entry is kept.
-    ensures served { (taken : List ℕ) × Takes (record { tells = S.tells; before = S.left source.old; now = S.left source.new }) taken × ServeLeaves (course plan.now (papers_in papers.now) settings.now.side_limit fleet.old journal.old fleet.new journal.new T.tells (T.clock station.old) (T.clock station.new)) settings.now.input_limit taken (S.last source.new) (record { tells = S.tells; before = S.left source.old; now = S.left source.new }) result }
+    ensures served { (taken : List ℕ) × Takes (record { tells = S.tells; before = S.left source.old; now = S.left source.new }) taken × ServeLeaves (course plan.now (papers_in papers.now) settings.now fleet.old journal.old fleet.new journal.new T.tells (T.clock station.old) (T.clock station.new)) settings.now.input_limit taken (S.last source.new) (record { tells = S.tells; before = S.left source.old; now = S.left source.new }) result }
     ensures rules { IsFleetState graph.now fleet.new }
+    ensures room { IsRoomFor graph.now kit.new.room }
 
     // Except after a fault of the station, station and journal are at rest where they were.
     ensures rests { T.tells → (IsErrOf result ServeFault.Station → ⊥) → IsAtRest plan.now (papers_in papers.now) journal.old fleet.old (T.clock station.old) → IsAtRest plan.now (papers_in papers.now) journal.new fleet.new (T.clock station.new) }
@@ -111,11 +114,13 @@ fn hear_all<T: Station>(
 ) -> Result<(), StepFault>
     requires graph { graph.now ≡ graph_of plan.now }
     requires state { IsFleetState graph.now fleet.old }
+    requires room { IsRoomFor graph.now kit.old.room }
     requires short { length kept.old ≤ 258 }
     requires stands { T.tells → StandsWith plan.now (papers_in papers.now) journal.old fleet.old (T.clock station.old).seen }
-    ensures heard { (line : List ℕ) → IsUnfinished line → kept.old ≡ kept_of line → Hears (course plan.now (papers_in papers.now) settings.now.side_limit fleet.old journal.old fleet.new journal.new T.tells (T.clock station.old) (T.clock station.new)) line bytes.now kept.new result }
+    ensures heard { (line : List ℕ) → IsUnfinished line → kept.old ≡ kept_of line → Hears (course plan.now (papers_in papers.now) settings.now fleet.old journal.old fleet.new journal.new T.tells (T.clock station.old) (T.clock station.new)) line bytes.now kept.new result }
     ensures short { length kept.new ≤ 258 }
     ensures rules { IsFleetState graph.now fleet.new }
+    ensures room { IsRoomFor graph.now kit.new.room }
     ensures stands { T.tells → (IsErrOf result StepFault.Station → ⊥) → StandsWith plan.now (papers_in papers.now) journal.new fleet.new (T.clock station.new).seen }
     ensures rests { T.tells → (IsErrOf result StepFault.Station → ⊥) → IsAtRest plan.now (papers_in papers.now) journal.old fleet.old (T.clock station.old) → IsAtRest plan.now (papers_in papers.now) journal.new fleet.new (T.clock station.new) }
     ensures counted { Counted (T.counts station.old) (T.counts station.new) }
@@ -145,11 +150,13 @@ fn hear_byte<T: Station>(
 ) -> Result<(), StepFault>
     requires graph { graph.now ≡ graph_of plan.now }
     requires state { IsFleetState graph.now fleet.old }
+    requires room { IsRoomFor graph.now kit.old.room }
     requires short { length kept.old ≤ 258 }
     requires stands { T.tells → StandsWith plan.now (papers_in papers.now) journal.old fleet.old (T.clock station.old).seen }
-    ensures heard { (line : List ℕ) → IsUnfinished line → kept.old ≡ kept_of line → Hears (course plan.now (papers_in papers.now) settings.now.side_limit fleet.old journal.old fleet.new journal.new T.tells (T.clock station.old) (T.clock station.new)) line (byte ∷ []) kept.new result }
+    ensures heard { (line : List ℕ) → IsUnfinished line → kept.old ≡ kept_of line → Hears (course plan.now (papers_in papers.now) settings.now fleet.old journal.old fleet.new journal.new T.tells (T.clock station.old) (T.clock station.new)) line (byte ∷ []) kept.new result }
     ensures short { length kept.new ≤ 258 }
     ensures rules { IsFleetState graph.now fleet.new }
+    ensures room { IsRoomFor graph.now kit.new.room }
     ensures stands { T.tells → (IsErrOf result StepFault.Station → ⊥) → StandsWith plan.now (papers_in papers.now) journal.new fleet.new (T.clock station.new).seen }
     ensures rests { T.tells → (IsErrOf result StepFault.Station → ⊥) → IsAtRest plan.now (papers_in papers.now) journal.old fleet.old (T.clock station.old) → IsAtRest plan.now (papers_in papers.now) journal.new fleet.new (T.clock station.new) }
     ensures counted { Counted (T.counts station.old) (T.counts station.new) }

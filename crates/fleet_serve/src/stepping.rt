@@ -6,6 +6,7 @@ ghost use Rattle.station_api.specs.Causes.{Counted, IsToBlame};
 ghost use Rattle.fleet_recovery.specs.Opening.{StandsWith, IsAtRest};
 ghost use Rattle.fleet_recovery.specs.Papers.{papers_in};
 ghost use Rattle.fleet_serve.specs.Serving.{StepLeaves, course};
+ghost use Rattle.search_nodes.specs.Rooms.{IsRoomFor};
 ghost use Rattle.fleet_serve.specs.Deciding.{IsReady};
 
 use crate::deciding::{Decision, decide};
@@ -41,12 +42,14 @@ pub fn step<T: Station>(
     requires graph { graph.now ≡ graph_of plan.now }
     requires state { IsFleetState graph.now fleet.old }
     requires line { length line.now < 2 ^ 32 }
+    requires room { IsRoomFor graph.now kit.old.room }
     requires stands { T.tells → StandsWith plan.now (papers_in papers.now) journal.old fleet.old (T.clock station.old).seen }
 
     // The turn of the line is made. At each moment a stop leaves sides that hold the state before the turn or after it, and
     // nothing of an entry's text is sent before the entry is kept.
-    ensures turn { StepLeaves (course plan.now (papers_in papers.now) settings.now.side_limit fleet.old journal.old fleet.new journal.new T.tells (T.clock station.old) (T.clock station.new)) line.now result }
+    ensures turn { StepLeaves (course plan.now (papers_in papers.now) settings.now fleet.old journal.old fleet.new journal.new T.tells (T.clock station.old) (T.clock station.new)) line.now result }
     ensures rules { IsFleetState graph.now fleet.new }
+    ensures room { IsRoomFor graph.now kit.new.room }
 
     // Except after a fault of the station, the sides stand for the fleet, and station and journal are at rest where they were.
     ensures stands { T.tells → (IsErrOf result StepFault.Station → ⊥) → StandsWith plan.now (papers_in papers.now) journal.new fleet.new (T.clock station.new).seen }
@@ -83,10 +86,12 @@ fn take_turn<T: Station>(
     requires graph { graph.now ≡ graph_of plan.now }
     requires state { IsFleetState graph.now fleet.old }
     requires line { length line.now < 2 ^ 32 }
+    requires room { IsRoomFor graph.now kit.old.room }
     requires stands { T.tells → StandsWith plan.now (papers_in _papers.now) journal.old fleet.old (T.clock station.old).seen }
-    ensures ready { IfOk result (IsReady plan.now (papers_in _papers.now) settings.now.side_limit fleet.old fleet.new journal.old journal.new T.tells (T.clock station.old) (T.clock station.new) line.now kit.new) }
-    ensures broken { IfErr result (λ fault. StepLeaves (course plan.now (papers_in _papers.now) settings.now.side_limit fleet.old journal.old fleet.new journal.new T.tells (T.clock station.old) (T.clock station.new)) line.now (Err fault)) }
+    ensures ready { IfOk result (IsReady plan.now (papers_in _papers.now) settings.now fleet.old fleet.new journal.old journal.new T.tells (T.clock station.old) (T.clock station.new) line.now kit.new.text) }
+    ensures broken { IfErr result (λ fault. StepLeaves (course plan.now (papers_in _papers.now) settings.now fleet.old journal.old fleet.new journal.new T.tells (T.clock station.old) (T.clock station.new)) line.now (Err fault)) }
     ensures rules { IsFleetState graph.now fleet.new }
+    ensures room { IsRoomFor graph.now kit.new.room }
     ensures memory { IsErrOf result StepFault.Memory → station.new ≡ station.old }
     ensures same_journal { IsErrOf result StepFault.Memory → journal.new ≡ journal.old }
     ensures counted { Counted (T.counts station.old) (T.counts station.new) }

@@ -9,35 +9,35 @@ use Rattle.fleet_serve.proofs.TurnLaws.{one_line, one_answer}
 use Rattle.fleet_serve.proofs.Decided.{refusal_said, entry_decided}
 use Rattle.fleet_serve.proofs.deciding.decide.Goals as goal
 
-pub returns-in_default : goal.returns-in_default
-returns-in_default c =
+pub returns-in_default-clause-decided : goal.returns-in_default-clause-decided
+returns-in_default-clause-decided c =
     let from : Point = point_of c.args.fleet.now c.args.journal.now in
-    refusal_said c.args.plan.now c.args.settings.now.side_limit from c.args.line.now c.refuse.new.kit Line c.refuse.result (malformed c.in_default.ensures.malformed (one_answer from c.args.line.now (Refused Line))) c.refuse.ensures.said c.refuse.ensures.text
+    refusal_said c.args.plan.now c.args.settings.now from c.args.line.now c.refuse.new.kit.text Line c.refuse.result (malformed c.in_default.ensures.malformed (one_answer from c.args.line.now (Refused Line))) c.refuse.ensures.said c.refuse.ensures.text
 
-pub returns-in_ok-kit-inside-in-Known : goal.returns-in_ok-kit-inside-in-Known
-returns-in_ok-kit-inside-in-Known c =
+pub returns-in_ok-kit-inside-in-Known-clause-decided : goal.returns-in_ok-kit-inside-in-Known-clause-decided
+returns-in_ok-kit-inside-in-Known-clause-decided c =
     let from : Point = point_of c.args.fleet.now c.args.journal.now in (
       one_line from c.args.line.now Known,
-      record { line_is = refl; is_turn = known c.in-Ok.report c.in-Ok.ensures.read (sym c.in-Known.ensures) (one_answer from c.args.line.now Known); stays = refl; text_is = c.in_ok-kit-inside-in-Known.ensures },
+      record { line_is = refl; is_turn = known c.in-Ok.report c.in-Ok.ensures.read (sym c.in-Known.ensures) (one_answer from c.args.line.now Known); no_entry = refl; stays = refl; text_is = c.in_ok-kit-inside-in-Known.ensures },
       refl,
     )
 
-pub returns-in-Refused : goal.returns-in-Refused
-returns-in-Refused c =
+pub returns-in-Refused-clause-decided : goal.returns-in-Refused-clause-decided
+returns-in-Refused-clause-decided c =
     let from : Point = point_of c.args.fleet.now c.args.journal.now in
     let why = c.in-Refused.why in
-    refusal_said c.args.plan.now c.args.settings.now.side_limit from c.args.line.now c.refuse-in-Refused.new.kit why c.refuse-in-Refused.result (refused c.in-Ok.report why c.in-Ok.ensures.read (sym c.in-Refused.ensures) (one_answer from c.args.line.now (Refused why)))
+    refusal_said c.args.plan.now c.args.settings.now from c.args.line.now c.refuse-in-Refused.new.kit.text why c.refuse-in-Refused.result (refused c.in-Ok.report why c.in-Ok.ensures.read (sym c.in-Refused.ensures) (one_answer from c.args.line.now (Refused why)))
     c.refuse-in-Refused.ensures.said c.refuse-in-Refused.ensures.text
 
-pub returns-in-Accept : goal.returns-in-Accept
-returns-in-Accept c =
+pub returns-in-Accept-clause-decided : goal.returns-in-Accept-clause-decided
+returns-in-Accept-clause-decided c =
     let from : Point = point_of c.args.fleet.now c.args.journal.now in
     let room : HasRoom _ c.args.settings.now.side_limit c.args.journal.now.place c.args.fleet.now c.in-Ok.report = rw c.requires.graph at (c.has_room.ensures.room.0 c.if-has_room.true) in
-    entry_decided c.args.plan.now c.args.settings.now.side_limit from c.args.line.now c.enter.new.kit c.in-Ok.report c.enter.result c.in-Ok.ensures.read room c.has_room.ensures.bound (c.enter.ensures c.args.journal.now.place)
+    entry_decided c.args.plan.now c.args.settings.now from c.args.line.now c.enter.new.kit.text c.in-Ok.report c.enter.result c.in-Ok.ensures.read room c.has_room.ensures.bound (c.enter.ensures.entering c.args.journal.now.place)
 
-pub returns-in-Accept-2 : goal.returns-in-Accept-2
-returns-in-Accept-2 c =
+pub returns-in-Accept-2-clause-decided : goal.returns-in-Accept-2-clause-decided
+returns-in-Accept-2-clause-decided c =
     let from : Point = point_of c.args.fleet.now c.args.journal.now in
     let none = untrue _ _ c.if-has_room.false c.has_room.ensures.room in
-    refusal_said c.args.plan.now c.args.settings.now.side_limit from c.args.line.now c.refuse-in-Accept-2.new.kit Full c.refuse-in-Accept-2.result
+    refusal_said c.args.plan.now c.args.settings.now from c.args.line.now c.refuse-in-Accept-2.new.kit.text Full c.refuse-in-Accept-2.result
     (full c.in-Ok.report c.in-Ok.ensures.read (sym c.in-Accept-2.ensures) (rw c.requires.graph at none) (one_answer from c.args.line.now (Refused Full))) c.refuse-in-Accept-2.ensures.said c.refuse-in-Accept-2.ensures.text

@@ -24,7 +24,7 @@ returns-in_err-hear_byte-clause-heard g c line begun e =
     let bytes = c.args.bytes.now in
     let routes = c.args.plan.now in
     let papers = papers_in c.args.papers.now in
-    let limit = c.args.settings.now.side_limit in
+    let settings = c.args.settings.now in
     let t = line ++ take n bytes in
     let byte = get_or bytes n 0 in
     let old : Clock = g.T.Station.clock c.args.station.now in
@@ -35,8 +35,8 @@ returns-in_err-hear_byte-clause-heard g c line begun e =
     let first = c.loop-byte.invariant.heard line begun e in
     let whole : (t ++ byte ∷ []) ++ drop (n + 1) bytes ≡ line ++ bytes =
     ap (λ (l : List ℕ). l ++ drop (n + 1) bytes) (more_bytes line bytes n 0 c.loop-byte-test.true) ∙ append_assoc line (take (n + 1) bytes) (drop (n + 1) bytes) ∙ ap (λ (l : List ℕ). line ++ l) (take-append-drop (n + 1) bytes) in
-    subst (λ (r : Result (Unit {0}) StepFault). Hears (course routes papers limit c.args.fleet.now c.args.journal.now c.hear_byte.new.fleet c.hear_byte.new.journal g.T.Station.tells old new) line bytes c.hear_byte.new.kept r) (sym (p.1 ∙ ap Err p.2))
-    (fault_on routes papers limit (point_of c.args.fleet.now c.args.journal.now) (point_of c.loop-byte.fleet c.loop-byte.journal) (point_of c.hear_byte.new.fleet c.hear_byte.new.journal) g.T.Station.tells
+    subst (λ (r : Result (Unit {0}) StepFault). Hears (course routes papers settings c.args.fleet.now c.args.journal.now c.hear_byte.new.fleet c.hear_byte.new.journal g.T.Station.tells old new) line bytes c.hear_byte.new.kept r) (sym (p.1 ∙ ap Err p.2))
+    (fault_on routes papers settings (point_of c.args.fleet.now c.args.journal.now) (point_of c.loop-byte.fleet c.loop-byte.journal) (point_of c.hear_byte.new.fleet c.hear_byte.new.journal) g.T.Station.tells
     (IsAtRest routes papers c.args.journal.now c.args.fleet.now old) (IsAtRest routes papers c.loop-byte.journal c.loop-byte.fleet mid) c.loop-byte.invariant.rests old mid new t (byte ∷ []) (drop (n + 1) bytes) (line ++ bytes) c.hear_byte.new.kept first.0 whole line bytes fault refl
     (c.in_err-hear_byte.ensures.heard (unfinished t) (unfinished_is t) first.1))
 
@@ -47,7 +47,7 @@ loop-byte-preserved g c = record {
       let bytes = c.args.bytes.now in
       let routes = c.args.plan.now in
       let papers = papers_in c.args.papers.now in
-      let limit = c.args.settings.now.side_limit in
+      let settings = c.args.settings.now in
       let t = line ++ take n bytes in
       let byte = get_or bytes n 0 in
       let old : Clock = g.T.Station.clock c.args.station.now in
@@ -56,13 +56,14 @@ loop-byte-preserved g c = record {
       let first = c.loop-byte.invariant.heard line begun e in
       let second = c.in_ok-hear_byte.ensures.heard (unfinished t) (unfinished_is t) first.1 in
       let more = more_bytes line bytes n 0 c.loop-byte-test.true in (
-        subst (Serves (course routes papers limit c.args.fleet.now c.args.journal.now c.hear_byte.new.fleet c.hear_byte.new.journal g.T.Station.tells old new)) more
-            (serves_on routes papers limit (point_of c.args.fleet.now c.args.journal.now) (point_of c.loop-byte.fleet c.loop-byte.journal) (point_of c.hear_byte.new.fleet c.hear_byte.new.journal) g.T.Station.tells
+        subst (Serves (course routes papers settings c.args.fleet.now c.args.journal.now c.hear_byte.new.fleet c.hear_byte.new.journal g.T.Station.tells old new)) more
+            (serves_on routes papers settings (point_of c.args.fleet.now c.args.journal.now) (point_of c.loop-byte.fleet c.loop-byte.journal) (point_of c.hear_byte.new.fleet c.hear_byte.new.journal) g.T.Station.tells
             (IsAtRest routes papers c.args.journal.now c.args.fleet.now old) (IsAtRest routes papers c.loop-byte.journal c.loop-byte.fleet mid) c.loop-byte.invariant.rests old mid new t (byte ∷ []) first.0 second.0),
         second.1 ∙ ap kept_of (sym (unfinished_join t (byte ∷ []))) ∙ ap (λ (s : List ℕ). kept_of (unfinished s)) more,
       );
   short = c.hear_byte.ensures.short;
   rules = c.hear_byte.ensures.rules;
+  room = c.hear_byte.ensures.room;
   stands = λ told. c.in_ok-hear_byte.ensures.stands told (λ is. cc);
   rests = λ told rest. c.in_ok-hear_byte.ensures.rests told (λ is. cc) (c.loop-byte.invariant.rests told rest);
   counted = counted_on _ _ _ c.loop-byte.invariant.counted c.hear_byte.ensures.counted;
@@ -73,14 +74,15 @@ loop-byte-init g c = record {
   heard = λ line begun e.
       let clock : Clock = g.T.Station.clock c.args.station.now in
       let papers = papers_in c.args.papers.now in
-      let limit = c.args.settings.now.side_limit in
+      let settings = c.args.settings.now in
       let whole = append-nil line in (
-        serves_none (course c.args.plan.now papers limit c.args.fleet.now c.args.journal.now c.args.fleet.now c.args.journal.now g.T.Station.tells clock clock) (line ++ [])
-            (ap whole_lines whole ∙ no_line line begun) refl (resting c.args.plan.now papers limit c.args.fleet.now c.args.journal.now g.T.Station.tells clock []) (λ told. refl),
+        serves_none (course c.args.plan.now papers settings c.args.fleet.now c.args.journal.now c.args.fleet.now c.args.journal.now g.T.Station.tells clock clock) (line ++ [])
+            (ap whole_lines whole ∙ no_line line begun) refl (resting c.args.plan.now papers settings c.args.fleet.now c.args.journal.now g.T.Station.tells clock []) (λ told. refl),
         e ∙ ap kept_of (sym (ap unfinished whole ∙ all_begun line begun)),
       );
   short = c.requires.short;
   rules = c.requires.state;
+  room = c.requires.room;
   stands = c.requires.stands;
   rests = λ told rest. rest;
   counted = counted_self _;

@@ -17,20 +17,21 @@ loop-left-preserved g c =
     let h = c.loop-left.invariant.served in
     let routes = c.args.plan.now in
     let papers = papers_in c.args.papers.now in
-    let limit = c.args.settings.now.side_limit in
+    let settings = c.args.settings.now in
     let behind = drop c.min-size.result c.loop-left.room in
     let chunk = take c.in-Ok.count (c.read.new.room ++ behind) in
     let old : Clock = g.T.Station.clock c.args.station.now in
     let mid : Clock = g.T.Station.clock c.loop-left.station in
     let new : Clock = g.T.Station.clock c.hear_all.new.station in
     record {
-      served = session_goes_on routes papers limit (point_of c.args.fleet.now c.args.journal.now) (point_of c.loop-left.fleet c.loop-left.journal) (point_of c.hear_all.new.fleet c.hear_all.new.journal) g.T.Station.tells
+      served = session_goes_on routes papers settings (point_of c.args.fleet.now c.args.journal.now) (point_of c.loop-left.fleet c.loop-left.journal) (point_of c.hear_all.new.fleet c.hear_all.new.journal) g.T.Station.tells
           (IsAtRest routes papers c.args.journal.now c.args.fleet.now old) (IsAtRest routes papers c.loop-left.journal c.loop-left.fleet mid) c.loop-left.invariant.rests old mid new c.args.settings.now.input_limit c.loop-left.left c.in-Ok.count c.in-Ok.count c.loop-left.kept c.hear_all.new.kept (g.S.Source.left c.read.new.self) chunk _ h
           (λ told. chunk_taken _ _ _ c.read.new.room behind c.in-Ok.count (c.in-Ok.ensures.bytes told) c.in-Ok.ensures.bound)
           (chunk_length c.read.new.room behind c.in-Ok.count c.in-Ok.ensures.bound)
           (omega (arith, c.in-Ok.ensures.bound, c.read.auto.room, length-take c.min-size.result c.loop-left.room, c.min-size.ensures))
           (c.in-Ok-hear_all.ensures.heard (unfinished h.taken) (unfinished_is h.taken) h.kept_is) c.hear_all.ensures.short;
       rules = c.hear_all.ensures.rules;
+      room = c.hear_all.ensures.room;
       stands = λ told. c.in-Ok-hear_all.ensures.stands told (λ is. cc);
       rests = λ told rest. c.in-Ok-hear_all.ensures.rests told (λ is. cc) (c.loop-left.invariant.rests told rest);
       source_counted = counted_on _ _ _ c.loop-left.invariant.source_counted c.read.ensures.cause.counted;
@@ -42,18 +43,18 @@ returns-in-Err-Station-clause-served g c =
     let h = c.loop-left.invariant.served in
     let routes = c.args.plan.now in
     let papers = papers_in c.args.papers.now in
-    let limit = c.args.settings.now.side_limit in
+    let settings = c.args.settings.now in
     let behind = drop c.min-size.result c.loop-left.room in
     let chunk = take c.in-Ok.count (c.read.new.room ++ behind) in
     let old : Clock = g.T.Station.clock c.args.station.now in
     let mid : Clock = g.T.Station.clock c.loop-left.station in
     let new : Clock = g.T.Station.clock c.hear_all.new.station in
-    session_breaks routes papers limit (point_of c.args.fleet.now c.args.journal.now) (point_of c.loop-left.fleet c.loop-left.journal) (point_of c.hear_all.new.fleet c.hear_all.new.journal) g.T.Station.tells
+    session_breaks routes papers settings (point_of c.args.fleet.now c.args.journal.now) (point_of c.loop-left.fleet c.loop-left.journal) (point_of c.hear_all.new.fleet c.hear_all.new.journal) g.T.Station.tells
     (IsAtRest routes papers c.args.journal.now c.args.fleet.now old) (IsAtRest routes papers c.loop-left.journal c.loop-left.fleet mid) c.loop-left.invariant.rests old mid new c.args.settings.now.input_limit c.loop-left.left c.in-Ok.count (g.S.Source.last c.read.new.self) c.loop-left.kept c.hear_all.new.kept (g.S.Source.left c.read.new.self) chunk _ h
     (λ told. chunk_taken _ _ _ c.read.new.room behind c.in-Ok.count (c.in-Ok.ensures.bytes told) c.in-Ok.ensures.bound)
     (chunk_length c.read.new.room behind c.in-Ok.count c.in-Ok.ensures.bound)
     (omega (arith, c.in-Ok.ensures.bound, c.read.auto.room, length-take c.min-size.result c.loop-left.room, c.min-size.ensures))
-    (subst (λ (fault : StepFault). Hears (course routes papers limit c.loop-left.fleet c.loop-left.journal c.hear_all.new.fleet c.hear_all.new.journal g.T.Station.tells mid new) (unfinished h.taken) chunk c.hear_all.new.kept (Err fault)) c.in-Err-Station.field-0-is
+    (subst (λ (fault : StepFault). Hears (course routes papers settings c.loop-left.fleet c.loop-left.journal c.hear_all.new.fleet c.hear_all.new.journal g.T.Station.tells mid new) (unfinished h.taken) chunk c.hear_all.new.kept (Err fault)) c.in-Err-Station.field-0-is
     (c.in-Err-Station.ensures.heard (unfinished h.taken) (unfinished_is h.taken) h.kept_is)) c.in-Ok.ensures.last (omega (arith, c.in-Ok.ensures.bound, c.read.auto.room, length-take c.min-size.result c.loop-left.room, c.min-size.ensures))
 
 pub returns-in-Err-Memory-clause-served : goal.returns-in-Err-Memory-clause-served
@@ -61,18 +62,18 @@ returns-in-Err-Memory-clause-served g c =
     let h = c.loop-left.invariant.served in
     let routes = c.args.plan.now in
     let papers = papers_in c.args.papers.now in
-    let limit = c.args.settings.now.side_limit in
+    let settings = c.args.settings.now in
     let behind = drop c.min-size.result c.loop-left.room in
     let chunk = take c.in-Ok.count (c.read.new.room ++ behind) in
     let old : Clock = g.T.Station.clock c.args.station.now in
     let mid : Clock = g.T.Station.clock c.loop-left.station in
     let new : Clock = g.T.Station.clock c.hear_all.new.station in
-    session_starves routes papers limit (point_of c.args.fleet.now c.args.journal.now) (point_of c.loop-left.fleet c.loop-left.journal) (point_of c.hear_all.new.fleet c.hear_all.new.journal) g.T.Station.tells
+    session_starves routes papers settings (point_of c.args.fleet.now c.args.journal.now) (point_of c.loop-left.fleet c.loop-left.journal) (point_of c.hear_all.new.fleet c.hear_all.new.journal) g.T.Station.tells
     (IsAtRest routes papers c.args.journal.now c.args.fleet.now old) (IsAtRest routes papers c.loop-left.journal c.loop-left.fleet mid) c.loop-left.invariant.rests old mid new c.args.settings.now.input_limit c.loop-left.left c.in-Ok.count (g.S.Source.last c.read.new.self) c.loop-left.kept c.hear_all.new.kept (g.S.Source.left c.read.new.self) chunk _ h
     (λ told. chunk_taken _ _ _ c.read.new.room behind c.in-Ok.count (c.in-Ok.ensures.bytes told) c.in-Ok.ensures.bound)
     (chunk_length c.read.new.room behind c.in-Ok.count c.in-Ok.ensures.bound)
     (omega (arith, c.in-Ok.ensures.bound, c.read.auto.room, length-take c.min-size.result c.loop-left.room, c.min-size.ensures))
-    (subst (λ (fault : StepFault). Hears (course routes papers limit c.loop-left.fleet c.loop-left.journal c.hear_all.new.fleet c.hear_all.new.journal g.T.Station.tells mid new) (unfinished h.taken) chunk c.hear_all.new.kept (Err fault)) c.in-Err-Memory.field-0-is
+    (subst (λ (fault : StepFault). Hears (course routes papers settings c.loop-left.fleet c.loop-left.journal c.hear_all.new.fleet c.hear_all.new.journal g.T.Station.tells mid new) (unfinished h.taken) chunk c.hear_all.new.kept (Err fault)) c.in-Err-Memory.field-0-is
     (c.in-Err-Memory.ensures.heard (unfinished h.taken) (unfinished_is h.taken) h.kept_is)) c.in-Ok.ensures.last (omega (arith, c.in-Ok.ensures.bound, c.read.auto.room, length-take c.min-size.result c.loop-left.room, c.min-size.ensures))
 
 pub returns-clause-served : goal.returns-clause-served
@@ -84,11 +85,12 @@ pub loop-left-init : goal.loop-left-init
 loop-left-init g c =
     let clock : Clock = g.T.Station.clock c.args.station.now in
     let papers = papers_in c.args.papers.now in
-    let limit = c.args.settings.now.side_limit in
+    let settings = c.args.settings.now in
     record {
-      served = nothing_served (course c.args.plan.now papers limit c.args.fleet.now c.args.journal.now c.args.fleet.now c.args.journal.now g.T.Station.tells clock clock) c.args.settings.now.input_limit c.new-kept.result _ refl
-          (resting c.args.plan.now papers limit c.args.fleet.now c.args.journal.now g.T.Station.tells clock []) refl c.new-kept.ensures refl;
+      served = nothing_served (course c.args.plan.now papers settings c.args.fleet.now c.args.journal.now c.args.fleet.now c.args.journal.now g.T.Station.tells clock clock) c.args.settings.now.input_limit c.new-kept.result _ refl
+          (resting c.args.plan.now papers settings c.args.fleet.now c.args.journal.now g.T.Station.tells clock []) refl c.new-kept.ensures refl;
       rules = c.requires.state;
+      room = c.requires.room;
       stands = c.requires.stands;
       rests = λ told rest. rest;
       source_counted = counted_self _;
