@@ -31,7 +31,7 @@ use Rattle.fleet_cli.specs.Due.{IsAsked, IsDue, a_check, a_made_text, a_refusal}
 use Rattle.fleet_recovery.specs.Papers.{Papers}
 use Rattle.fleet_recovery.specs.Image.{StandsFor}
 use Rattle.fleet_cli.proofs.Opening.{not_refused}
-use Rattle.fleet_cli.specs.Runs.{sent_on, RunEnds}
+use Rattle.fleet_cli.specs.Runs.{sent_on, RunEnds, run_settings}
 use Rattle.fleet_cli.specs.Lines.{fault_line, status_of}
 use Rattle.fleet_cli.specs.Tasks.{EndsWith}
 use Rattle.fleet_serve.specs.Told.{Sends}
@@ -202,7 +202,7 @@ pub routes_are : (files : Files) (map_name plan_name : List ℕ) (papers : Paper
 routes_are files map_name plan_name papers routes s = record { grid = s.has.grid; plan = s.has.plan; accepted = s.has.accepted; visits = s.has.visits }
 
 run_smooth : (call : Call) (command : Command) (papers : Papers) (routes : List (List PlannedVisit)) (end : Status) → call.files.tells → IsAsked call.files call.words command papers routes → MayOpen command routes papers call.talk.line.tells call.talk.line.old.seen
-    → (call.talk.source_failed → ⊥) → (call.talk.line.failed → ⊥) → (r : IsRunCall call end) → RunEnds r.routes r.papers call.talk end → IsSmooth command end
+    → (call.talk.source_failed → ⊥) → (call.talk.line.failed → ⊥) → (r : IsRunCall call end) → RunEnds r.routes r.papers (run_settings r.budget r.quiet) call.talk end → IsSmooth command end
 run_smooth call command papers routes Done t a may taken sent r e = tt
 run_smooth call command papers routes status.Usage t a may taken sent r e = absurd e
 run_smooth call command papers routes Input t a may taken sent r e = absurd e

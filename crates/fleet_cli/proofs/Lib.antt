@@ -5,7 +5,7 @@ pub mod LivesHeld
 pub mod LivesJoining
 pub mod LivesMarks
 pub mod LivesMoments
-pub mod LivesReports
+pub mod LivesEntries
 pub mod Made
 pub mod Opening
 pub mod Pieces

@@ -4,7 +4,6 @@ use Rattle.std.specs.Prelude.{Contains, codes}
 use Rattle.std.specs.List.{AllByRecursion}
 use Rattle.fleet_base.specs.declared.geometry.Visit.{Visit}
 use Rattle.fleet_base.specs.declared.geometry.PlannedVisit.{PlannedVisit}
-use Rattle.fleet_base.specs.declared.report.Report.{Report}
 use Rattle.fleet_base.specs.Plan.{AreRoutes, IsOnRoute}
 use Rattle.fleet_base.specs.Order.{graph_of}
 use Rattle.fleet_base.specs.State.{FleetState, IsReleased, released_count}
@@ -14,6 +13,7 @@ use Rattle.fleet_base.specs.World.{Mark, IsTold, IsEverTold, release_text}
 use Rattle.fleet_base.proofs.Members.{in_none, in_one, in_cons}
 use Rattle.fleet_base.proofs.FirstState.{first_state_ahead_keeps}
 use Rattle.fleet_base.proofs.LineLaws.{AtLeast, AtLeast-append, AtLeast-less, AtLeast_by, all_of, whole_lines_sent}
+use Rattle.journal_frame.specs.Entries.{Accepted}
 use Rattle.fleet_serve.specs.Lines.{text_of, greeting_of}
 use Rattle.fleet_serve.specs.Turns.{AreTurns, state_after, answers_of}
 use Rattle.fleet_cli.specs.Lives.{IsFaultLine, IsEnding, SessionMade, IsMarkOf, early, kept, sent_of, MayBegin, IsLife, texts_of}
@@ -74,22 +74,22 @@ front_told routes x lines sent tells plain front v on told = tells (release_text
 abbrev pub lines_at : List (List PlannedVisit) → SessionMade → ℕ → List (List ℕ) → List (List ℕ)
 lines_at routes s made ending = greeting_of routes s.start.state ++ (answers_of (take made s.turns) ++ ending)
 
-module _ (routes : List (List PlannedVisit)) (s : SessionMade) (follow : AreTurns (graph_of routes) routes s.limit s.start s.turns) (made : ℕ) (ending : List (List ℕ)) (is : IsEnding ending) where
+module _ (routes : List (List PlannedVisit)) (s : SessionMade) (follow : AreTurns (graph_of routes) routes s.settings s.start s.turns) (made : ℕ) (ending : List (List ℕ)) (is : IsEnding ending) where
   pub lines_plain : Plain (lines_at routes s made ending)
   lines_plain =
       plain_both (greeting_of routes s.start.state) (answers_of (take made s.turns) ++ ending) (plain_greeting routes s.start.state)
-      (plain_both (answers_of (take made s.turns)) ending (plain_turns routes s.limit s.start s.turns follow made) (ending_plain ending is))
+      (plain_both (answers_of (take made s.turns)) ending (plain_turns routes s.settings s.start s.turns follow made) (ending_plain ending is))
 
   lines_tell : AreRoutes routes → IsFleetState (graph_of routes) s.start.state → TellReleased routes (state_after s.start (take made s.turns)) (lines_at routes s made ending)
   lines_tell r state =
       let x = s.start.state in
       let y = state_after s.start (take made s.turns) in
-      let told = turns_tell routes r s.limit s.start state (greeting_of routes x) (greeting_tells routes r x state) s.turns follow made in
+      let told = turns_tell routes r s.settings s.start state (greeting_of routes x) (greeting_tells routes r x state) s.turns follow made in
       subst (TellReleased routes y) (append_assoc (greeting_of routes x) (answers_of (take made s.turns)) ending)
       (tell_both routes y (greeting_of routes x ++ answers_of (take made s.turns)) ending told (ending_tells routes y ending is))
 
-pub mark_good : (routes : List (List PlannedVisit)) → AreRoutes routes → (texts : List (List ℕ)) (may_begin : FleetState → List Report → Type 0) → ((x : FleetState) (held : List Report) → may_begin x held → IsGood routes texts x)
-    → (s : SessionMade) → may_begin s.start.state s.held → AreTurns (graph_of routes) routes s.limit s.start s.turns → (mark : Mark) (held : List Report) → IsMarkOf routes may_begin s mark held → IsGood routes (mark.sent ∷ texts) mark.state
+pub mark_good : (routes : List (List PlannedVisit)) → AreRoutes routes → (texts : List (List ℕ)) (may_begin : FleetState → List Accepted → Type 0) → ((x : FleetState) (held : List Accepted) → may_begin x held → IsGood routes texts x)
+    → (s : SessionMade) → may_begin s.start.state s.held → AreTurns (graph_of routes) routes s.settings s.start s.turns → (mark : Mark) (held : List Accepted) → IsMarkOf routes may_begin s mark held → IsGood routes (mark.sent ∷ texts) mark.state
 mark_good routes r texts may_begin before s begins turns mark held (early ending at is sent) =
     let b = before mark.state held at in
     record { state = b.state; told = told_more routes texts mark.sent mark.state b.told (front_told routes mark.state ending mark.sent (ending_tells routes mark.state ending is) (ending_plain ending is) sent) }
@@ -97,15 +97,15 @@ mark_good routes r texts may_begin before s begins turns mark held (kept made en
     let x = s.start.state in
     let b = before x s.held begins in
     let y = state_after s.start (take made s.turns) in
-    let grows : (i : ℕ) → released_count x i ≤ released_count y i = λ i. turns_grow routes r s.limit s.start b.state s.turns turns 0 made i (omega arith) in
+    let grows : (i : ℕ) → released_count x i ≤ released_count y i = λ i. turns_grow routes r s.settings s.start b.state s.turns turns 0 made i (omega arith) in
     let tells = lines_tell routes s turns made ending is r b.state in
     let plain = lines_plain routes s turns made ending is in
     let told : IsToldWell routes (mark.sent ∷ texts) y = told_more routes texts mark.sent y (told_later routes texts x y grows b.told) (front_told routes y (lines_at routes s made ending) mark.sent tells plain sent) in
-    let good : IsFleetState (graph_of routes) y = turns_keep (graph_of routes) routes s.limit s.start (take made s.turns) b.state (turns-take (graph_of routes) routes s.limit s.start s.turns made turns) in
+    let good : IsFleetState (graph_of routes) y = turns_keep (graph_of routes) routes s.settings s.start (take made s.turns) b.state (turns-take (graph_of routes) routes s.settings s.start s.turns made turns) in
     subst (IsGood routes (mark.sent ∷ texts)) (sym state) (record { state = good; told = told })
 
 -- each state in which a session may begin is good for all that was sent before
-pub begin_good : (routes : List (List PlannedVisit)) → AreRoutes routes → (earlier : List SessionMade) → IsLife routes earlier → (x : FleetState) (held : List Report) → MayBegin routes earlier x held → IsGood routes (texts_of earlier) x
+pub begin_good : (routes : List (List PlannedVisit)) → AreRoutes routes → (earlier : List SessionMade) → IsLife routes earlier → (x : FleetState) (held : List Accepted) → MayBegin routes earlier x held → IsGood routes (texts_of earlier) x
 begin_good routes r [] life x held begins = record { state = first_state_ahead_keeps routes x.window x r begins.0.0 begins.0.1; told = λ v on h. absurd (in_none h.0 h.1) }
 begin_good routes r (s ∷ earlier) life x held begins =
     mark_good routes r (texts_of earlier) (MayBegin routes earlier) (begin_good routes r earlier life.1) s life.0.begins life.0.turns (record { state = x; sent = sent_of s }) held begins

@@ -1,5 +1,6 @@
 -- How a run ends, from what its calls leave.
 use Rattle.std.proofs.Common.{ℕ, ◌≡◌, List, [], ◌∷◌, ◌++◌, take, Ok, Err, refl, sym, ap, ◌∙◌, subst, inl, inr, append_assoc, append-nil}
+use Rattle.std.specs.Prelude.{codes}
 use Rattle.fleet_base.specs.declared.geometry.PlannedVisit.{PlannedVisit}
 use Rattle.fleet_base.specs.declared.status.Status.{Status}
 use Rattle.fleet_base.specs.declared.status.Status.TheVariants.{Done, Usage, Input, Journal, ReadFault, StationFault, Memory, Limit}
@@ -8,124 +9,186 @@ use Rattle.fleet_base.specs.Bytes.{whole_lines}
 use Rattle.fleet_base.specs.State.{FleetState}
 use Rattle.fleet_base.specs.Rules.{IsFleetState}
 use Rattle.fleet_base.proofs.Progress.{never_stalls}
-use Rattle.station_api.specs.Clock.{Clock}
+use Rattle.fleet_base.specs.Plan.{AreRoutes}
+use Rattle.station_api.specs.Clock.{Clock, LeavesOnly}
+use Rattle.station_api.specs.Disk.{IsSending}
 use Rattle.fleet_journal.specs.Standing.{Standing}
 use Rattle.fleet_recovery.specs.Papers.{Papers}
-use Rattle.fleet_recovery.specs.Opening.{Opens}
+use Rattle.fleet_recovery.specs.Opening.{IsOpening, Opens, IsAtRest}
+use Rattle.fleet_recovery.proofs.Sending.{rests_sending}
+use Rattle.fleet_serve.specs.declared.outcome.Settings.{Settings}
 use Rattle.fleet_serve.specs.Told.{Told, SendsPart, Takes}
 use Rattle.fleet_serve.specs.Lines.{text_of, greeting_of}
-use Rattle.fleet_serve.specs.Turns.{TurnMade, AreTurns, state_after, answers_of, lines_of}
+use Rattle.fleet_serve.specs.Turns.{Point, TurnMade, AreTurns, state_after, answers_of, lines_of}
 use Rattle.fleet_serve.specs.declared.outcome.ServeFault.TheVariants as serve_fault
-use Rattle.fleet_serve.specs.Serving.{Course, course, point_of, Serves, ServeLeaves}
+use Rattle.fleet_serve.specs.Serving.{Course, course, point_of, Moments, Serves, ServeLeaves}
 use Rattle.fleet_serve.proofs.Texts.{text-append}
-use Rattle.fleet_serve.proofs.TurnLaws.{turns_keep, turns-take}
-use Rattle.fleet_cli.specs.Runs.{Talk, GoesOn, IsTalk, unread, past_limit, breaks_early, starves_early, the_greeting, an_answer, the_last_line, a_turn, OpenEnds, RunEnds, input_limit, side_limit, unread_line, past_limit_line}
+use Rattle.fleet_serve.proofs.TurnLaws.{turns_keep, turns_window, turns-take}
+use Rattle.fleet_cli.specs.Runs.{Talk, GoesOn, IsTalk, unread, past_limit, breaks_early, starves_early, no_greeting, the_greeting, an_answer, the_last_line, a_turn, OpenEnds, RunEnds, input_limit, unread_line, past_limit_line}
 use Rattle.fleet_cli.specs.Tasks.{EndsWith}
+use Rattle.fleet_cli.specs.Lives.{IsFaultLine}
+use Rattle.fleet_cli.specs.Sessions.{IsMoment}
+use Rattle.fleet_cli.proofs.LivesMoments.{SendsFront, sends_all, sends_some}
+use Rattle.fleet_cli.proofs.LivesCalls.{opens_stand, one_window, greeted_moments, served_moments, failed_moments}
+use Rattle.fleet_cli.proofs.RunSessions.{unread_is_fault, limit_is_fault}
 
 -- a state that keeps the rules goes on
 goes_on : (routes : List (List PlannedVisit)) (x : FleetState) → IsFleetState (graph_of routes) x → GoesOn routes x
 goes_on routes x s = record { order = s.order; moves = never_stalls (graph_of routes) x s }
 
 -- a run whose journal was not opened
-pub opening_ends : (routes : List (List PlannedVisit)) (papers : Papers) (talk : Talk) (end : Status) → Takes talk.input [] → OpenEnds routes papers talk.line end → RunEnds routes papers talk end
-opening_ends routes papers talk Done takes o = absurd o
-opening_ends routes papers talk Usage takes o = o
-opening_ends routes papers talk Input takes o = o
-opening_ends routes papers talk Journal takes o = (takes, o)
-opening_ends routes papers talk ReadFault takes o = absurd o
-opening_ends routes papers talk StationFault takes o = (o.0, breaks_early takes o.1)
-opening_ends routes papers talk Memory takes o = starves_early takes o
-opening_ends routes papers talk Limit takes o = absurd o
+pub opening_ends : (routes : List (List PlannedVisit)) (papers : Papers) (settings : Settings) (talk : Talk) (end : Status) → Takes talk.input [] → OpenEnds routes papers talk.line end → RunEnds routes papers settings talk end
+opening_ends routes papers settings talk Done takes o = absurd o
+opening_ends routes papers settings talk Usage takes o = o
+opening_ends routes papers settings talk Input takes o = o
+opening_ends routes papers settings talk Journal takes o = (takes, o)
+opening_ends routes papers settings talk ReadFault takes o = absurd o
+opening_ends routes papers settings talk StationFault takes o = (o.0, breaks_early takes o.1)
+opening_ends routes papers settings talk Memory takes o = starves_early takes o
+opening_ends routes papers settings talk Limit takes o = absurd o
 
-module _ (routes : List (List PlannedVisit)) (papers : Papers) (x y : FleetState) (journal later : Standing) (tells : Type 0) (old greeted served : Clock) (rules : IsFleetState (graph_of routes) x) (opens : tells → Opens routes papers old.seen x journal.place)
-    (input : Told) (last_read : ℕ) (source_failed failed : Type 0) where
+-- what is said of a line says what is sent of it
+said_front : (tells : Type 0) (mid new : Clock) (status end : Status) (failed : Type 0) (text : List ℕ) → tells → EndsWith status text (record { tells = tells; before = mid.seen.sent; now = new.seen.sent }) failed end → SendsFront mid new text
+said_front tells mid new status end failed text told (inl (e, sends)) = sends_all mid new text (sends told)
+said_front tells mid new status end failed text told (inr (e, broke, part)) = let p = part told in sends_some mid new text p.0 p.1
+
+module _ (routes : List (List PlannedVisit)) (r : AreRoutes routes) (papers : Papers) (settings : Settings) (x y : FleetState) (journal later : Standing) (tells : Type 0) (old opened greeted served : Clock) (rules : IsFleetState (graph_of routes) x)
+    (opens : tells → Opens routes papers old.seen x journal.place) (opening : tells → LeavesOnly (IsOpening routes papers old) old opened) (unsent : tells → opened.seen.sent ≡ old.seen.sent) (rest : tells → IsAtRest routes papers journal x opened)
+    (greeting : tells → IsSending opened greeted) (input : Told) (last_read : ℕ) (source_failed failed : Type 0) where
+  abbrev start : Point
+  start = point_of x journal
+
   -- the service after the greeting
   abbrev s : Course
-  s = course routes papers side_limit x journal y later tells greeted served
+  s = course routes papers settings x journal y later tells greeted served
 
   -- the talk of a run that ends at this clock
   abbrev talk_to : Clock → Talk
   talk_to last = record { input = input; last_read = last_read; source_failed = source_failed; line = record { tells = tells; old = old; new = last; failed = failed } }
 
-  talked : (bytes : List ℕ) (turns : List TurnMade) (left : List (List ℕ)) → lines_of turns ++ left ≡ whole_lines bytes → AreTurns (graph_of routes) routes side_limit (point_of x journal) turns → (last : Clock) → IsTalk routes papers (talk_to last) bytes
-  talked bytes turns left lines follow last = record {
-    start = point_of x journal;
+  talked : (bytes : List ℕ) (turns : List TurnMade) (left : List (List ℕ)) → lines_of turns ++ left ≡ whole_lines bytes → AreTurns (graph_of routes) routes settings start turns → (last : Clock) → (tells → LeavesOnly (IsMoment routes papers old start turns) old last)
+      → IsTalk routes papers settings (talk_to last) bytes
+  talked bytes turns left lines follow last moments = record {
+    start = start;
     opens = opens;
     turns = turns;
     left = left;
     lines_are = lines;
     follow = follow;
-    goes_on = λ k. goes_on routes (state_after (point_of x journal) (take k turns)) (turns_keep (graph_of routes) routes side_limit (point_of x journal) (take k turns) rules (turns-take (graph_of routes) routes side_limit (point_of x journal) turns k follow));
+    goes_on = λ k. goes_on routes (state_after start (take k turns)) (turns_keep (graph_of routes) routes settings start (take k turns) rules (turns-take (graph_of routes) routes settings start turns k follow));
+    moments = moments;
   }
 
+  stood : (told : tells) → Rattle.fleet_recovery.specs.Image.StandsFor routes papers old.seen x
+  stood told = opens_stand routes papers old.seen x journal.place (opens told)
+
+  -- the robots of each of its states hold one release at most
+  opens_one : tells → x.window ≡ 1
+  opens_one told = one_window routes papers old.seen x journal.place (opens told)
+
+  all_one : tells → (turns : List TurnMade) → AreTurns (graph_of routes) routes settings start turns → (state_after start turns).window ≡ 1
+  all_one told turns follow = turns_window (graph_of routes) routes settings start turns follow ∙ opens_one told
+
+  turns_one : tells → (turns : List TurnMade) → AreTurns (graph_of routes) routes settings start turns → (k : ℕ) → (state_after start (take k turns)).window ≡ 1
+  turns_one told turns follow k = all_one told (take k turns) (turns-take (graph_of routes) routes settings start turns k follow)
+
   -- no line is taken yet
-  pub greeting_talk : (last : Clock) → IsTalk routes papers (talk_to last) []
-  greeting_talk last = talked [] [] [] refl tt last
+  greeting_talk : (tells → SendsFront opened greeted (text_of (greeting_of routes x))) → IsTalk routes papers settings (talk_to greeted) []
+  greeting_talk sends = talked [] [] [] refl tt greeted (λ told. greeted_moments routes r papers start old opened (stood told) (opening told) (opens_one told) (unsent told) greeted journal (rest told) (greeting told) [] (sends told))
 
   -- a send failed in the greeting
-  pub greeting_breaks : Takes input [] → failed → SendsPart (record { tells = tells; before = old.seen.sent; now = served.seen.sent }) [] (text_of (greeting_of routes x)) → RunEnds routes papers (talk_to served) StationFault
+  pub greeting_breaks : Takes input [] → failed → SendsPart (record { tells = tells; before = opened.seen.sent; now = greeted.seen.sent }) [] (text_of (greeting_of routes x)) → RunEnds routes papers settings (talk_to greeted) StationFault
   unfolding greeting_talk talked
-  greeting_breaks takes broke part = (broke, the_greeting (greeting_talk served) takes part)
+  greeting_breaks takes broke part = (
+    broke,
+    the_greeting (greeting_talk (λ told. let p = part told in sends_some opened greeted (text_of (greeting_of routes x)) p.0 p.1)) takes
+        (λ told. let p = part told in (p.0, p.1 ∙ ap (λ (t : List ℕ). t ++ take p.0 (text_of (greeting_of routes x))) (unsent told))),
+  )
 
   -- memory was wanting for it
-  pub greeting_starves : Takes input [] → (tells → served.seen.sent ≡ old.seen.sent) → RunEnds routes papers (talk_to served) Memory
-  greeting_starves takes same = starves_early takes (λ told. same told ∙ sym (append-nil old.seen.sent))
+  pub greeting_starves : Takes input [] → (tells → greeted.seen.sent ≡ opened.seen.sent) → RunEnds routes papers settings (talk_to greeted) Memory
+  greeting_starves takes same =
+      no_greeting (greeting_talk (λ told. ([], same told ∙ sym (append-nil opened.seen.sent), (text_of (greeting_of routes x), refl)))) takes (λ told. same told ∙ unsent told ∙ sym (append-nil old.seen.sent))
 
-  module _ (greeted_is : tells → greeted.seen.sent ≡ old.seen.sent ++ text_of (greeting_of routes x)) where
+  module _ (whole : tells → greeted.seen.sent ≡ opened.seen.sent ++ text_of (greeting_of routes x)) where
+    greeted_is : tells → greeted.seen.sent ≡ old.seen.sent ++ text_of (greeting_of routes x)
+    greeted_is told = whole told ∙ ap (λ (t : List ℕ). t ++ text_of (greeting_of routes x)) (unsent told)
+
+    rested : tells → IsAtRest routes papers journal x greeted
+    rested told = rests_sending routes papers journal x opened greeted (greeting told) (rest told)
+
     -- what is sent behind the greeting
     behind : (turns : List TurnMade) (more : List ℕ) (now : List ℕ) → now ≡ greeted.seen.sent ++ (text_of (answers_of turns) ++ more) → tells → now ≡ old.seen.sent ++ (text_of (greeting_of routes x ++ answers_of turns) ++ more)
     behind turns more now is told =
         is ∙ ap (λ (t : List ℕ). t ++ (text_of (answers_of turns) ++ more)) (greeted_is told) ∙ append_assoc old.seen.sent (text_of (greeting_of routes x)) (text_of (answers_of turns) ++ more)
         ∙ ap (λ (t : List ℕ). old.seen.sent ++ t) (sym (append_assoc (text_of (greeting_of routes x)) (text_of (answers_of turns)) more) ∙ ap (λ (t : List ℕ). t ++ more) (sym (text-append (greeting_of routes x) (answers_of turns))))
 
+    -- the moments of a run that ends with its turns
+    turned : (turns : List TurnMade) → AreTurns (graph_of routes) routes settings start turns → Moments s turns → tells → LeavesOnly (IsMoment routes papers old start turns) old served
+    turned turns follow moments told = served_moments routes r papers start old opened (stood told) (opening told) (opens_one told) (unsent told) greeted journal (rest told) (greeting told) (whole told) served turns (turns_one told turns follow) (moments told (rested told))
+
     -- all lines of these bytes are answered
-    pub served_talk : (bytes : List ℕ) → Serves s bytes → (last : Clock) → IsTalk routes papers (talk_to last) bytes
-    served_talk bytes h last = talked bytes h.turns [] (append-nil (lines_of h.turns) ∙ h.made.lines_are) h.made.follow last
+    served_talk : (bytes : List ℕ) (h : Serves s bytes) (last : Clock) → (tells → LeavesOnly (IsMoment routes papers old start h.turns) old last) → IsTalk routes papers settings (talk_to last) bytes
+    served_talk bytes h last moments = talked bytes h.turns [] (append-nil (lines_of h.turns) ∙ h.made.lines_are) h.made.follow last moments
 
     sent_then : (bytes : List ℕ) (h : Serves s bytes) (more now : List ℕ) → tells → now ≡ served.seen.sent ++ more → now ≡ old.seen.sent ++ (text_of (greeting_of routes x ++ answers_of h.turns) ++ more)
     sent_then bytes h more now told is =
         behind h.turns more now (is ∙ ap (λ (t : List ℕ). t ++ more) (h.sends told) ∙ append_assoc greeted.seen.sent (text_of (answers_of h.turns)) more) told
 
     -- all input was answered
-    pub done_ends : (taken : List ℕ) × Takes input taken × ServeLeaves s input_limit taken last_read input (Ok (record {})) → RunEnds routes papers (talk_to served) Done
+    pub done_ends : (taken : List ℕ) × Takes input taken × ServeLeaves s input_limit taken last_read input (Ok (record {})) → RunEnds routes papers settings (talk_to served) Done
     unfolding served_talk talked
-    done_ends (taken, takes, (few, end, h)) = (taken, takes, few, end, (served_talk taken h served, refl, λ told. sent_then taken h [] served.seen.sent told (sym (append-nil served.seen.sent))))
+    done_ends (taken, takes, (few, end, h)) = (taken, takes, few, end, (served_talk taken h served (turned h.turns h.made.follow h.moments), refl, λ told. sent_then taken h [] served.seen.sent told (sym (append-nil served.seen.sent))))
 
     -- the station failed in a turn
-    pub breaks_ends : failed → (taken : List ℕ) × Takes input taken × ServeLeaves s input_limit taken last_read input (Err serve_fault.Station) → RunEnds routes papers (talk_to served) StationFault
+    pub breaks_ends : failed → (taken : List ℕ) × Takes input taken × ServeLeaves s input_limit taken last_read input (Err serve_fault.Station) → RunEnds routes papers settings (talk_to served) StationFault
     unfolding talked
     breaks_ends broke (taken, takes, (few, b)) = (
       broke,
-      an_answer taken takes few (talked taken (b.turns ++ b.torn ∷ []) b.begins.left b.begins.lines_are b.begins.follow served) b.turns b.torn refl b.prompt
+      an_answer taken takes few (talked taken (b.turns ++ b.torn ∷ []) b.begins.left b.begins.lines_are b.begins.follow served (turned (b.turns ++ b.torn ∷ []) b.begins.follow b.begins.moments)) b.turns b.torn refl b.prompt
           (λ told. let p = b.sends told in (p.0, behind b.turns (take p.0 (text_of b.torn.answer)) served.seen.sent p.1 told)),
     )
 
     -- memory was wanting in a turn
-    pub starves_ends : (taken : List ℕ) × Takes input taken × ServeLeaves s input_limit taken last_read input (Err serve_fault.Memory) → RunEnds routes papers (talk_to served) Memory
+    pub starves_ends : (taken : List ℕ) × Takes input taken × ServeLeaves s input_limit taken last_read input (Err serve_fault.Memory) → RunEnds routes papers settings (talk_to served) Memory
     unfolding talked
     starves_ends (taken, takes, (few, b)) =
-        a_turn taken takes few (talked taken b.turns b.begins.left b.begins.lines_are b.begins.follow served) b.prompt
+        a_turn taken takes few (talked taken b.turns b.begins.left b.begins.lines_are b.begins.follow served (turned b.turns b.begins.follow b.begins.moments)) b.prompt
         (λ told. behind b.turns [] served.seen.sent (b.sends told ∙ ap (λ (t : List ℕ). greeted.seen.sent ++ t) (sym (append-nil (text_of (answers_of b.turns))))) told ∙ ap (λ (t : List ℕ). old.seen.sent ++ t) (append-nil (text_of (greeting_of routes x ++ answers_of b.turns))))
 
-    -- a read failed, and its line was sent
-    pub unread_ends : (last : Clock) (late : Type 0) (end : Status) → source_failed → (late → failed) → (taken : List ℕ) × Takes input taken × ServeLeaves s input_limit taken last_read input (Err serve_fault.Read)
-        → EndsWith ReadFault unread_line (record { tells = tells; before = served.seen.sent; now = last.seen.sent }) late end → RunEnds routes papers (talk_to last) end
-    unfolding served_talk talked
-    unread_ends last late end unreadable so (taken, takes, (few, h)) (inl (e, sends)) =
-        subst (RunEnds routes papers (talk_to last)) (sym e) (unreadable, (taken, takes, few, (served_talk taken h last, refl, λ told. sent_then taken h unread_line last.seen.sent told (sends told))))
-    unread_ends last late end unreadable so (taken, takes, (few, h)) (inr (e, broke, part)) =
-        subst (RunEnds routes papers (talk_to last)) (sym e)
-        (so broke, the_last_line taken taken unread_line (unread unreadable few refl refl) takes (served_talk taken h last) refl (λ told. let p = part told in (p.0, sent_then taken h (take p.0 unread_line) last.seen.sent told p.1)))
+    -- and then a last line
+    module _ (rest_then : tells → IsAtRest routes papers journal x greeted → IsAtRest routes papers later y served) (last : Clock) (sending : tells → IsSending served last) (late : Type 0) (end : Status) (so : late → failed) where
+      -- its moments
+      lined : (line : List ℕ) → IsFaultLine line → (bytes : List ℕ) (h : Serves s bytes) → (tells → SendsFront served last (text_of (line ∷ []))) → tells → LeavesOnly (IsMoment routes papers old start h.turns) old last
+      lined line is bytes h sends told =
+          failed_moments routes r papers start old opened (stood told) (opening told) (opens_one told) (unsent told) greeted journal (rest told) (greeting told) (whole told) served h.turns (turns_one told h.turns h.made.follow) (h.moments told (rested told)) (all_one told h.turns h.made.follow) (h.sends told) last later line is
+          (subst (λ (z : FleetState). IsAtRest routes papers later z served) (ap (λ (p : Point). p.state) h.leads) (rest_then told (rested told))) (sending told) (sends told)
 
-    -- there was more input, and the line that says so was sent
-    pub limit_ends : (last : Clock) (late : Type 0) (end : Status) → (late → failed) → (taken : List ℕ) × Takes input taken × ServeLeaves s input_limit taken last_read input (Err serve_fault.Limit)
-        → EndsWith Limit past_limit_line (record { tells = tells; before = served.seen.sent; now = last.seen.sent }) late end → RunEnds routes papers (talk_to last) end
-    unfolding served_talk talked
-    limit_ends last late end so (taken, takes, (full, h)) (inl (e, sends)) =
-        subst (RunEnds routes papers (talk_to last)) (sym e) (taken, takes, full, (served_talk (take input_limit taken) h last, refl, λ told. sent_then (take input_limit taken) h past_limit_line last.seen.sent told (sends told)))
-    limit_ends last late end so (taken, takes, (full, h)) (inr (e, broke, part)) =
-        subst (RunEnds routes papers (talk_to last)) (sym e) (
-          so broke,
-          the_last_line taken (take input_limit taken) past_limit_line (past_limit full refl refl) takes (served_talk (take input_limit taken) h last) refl
-              (λ told. let p = part told in (p.0, sent_then (take input_limit taken) h (take p.0 past_limit_line) last.seen.sent told p.1)),
-        )
+      unread_talk : (taken : List ℕ) (h : Serves s taken) → EndsWith ReadFault unread_line (record { tells = tells; before = served.seen.sent; now = last.seen.sent }) late end → IsTalk routes papers settings (talk_to last) taken
+      unread_talk taken h ends = served_talk taken h last (lined (codes "fault read reports") unread_is_fault taken h (λ told. said_front tells served last ReadFault end late (text_of (codes "fault read reports" ∷ [])) told ends))
+
+      limit_talk : (bytes : List ℕ) (h : Serves s bytes) → EndsWith Limit past_limit_line (record { tells = tells; before = served.seen.sent; now = last.seen.sent }) late end → IsTalk routes papers settings (talk_to last) bytes
+      limit_talk bytes h ends = served_talk bytes h last (lined (codes "fault limit") limit_is_fault bytes h (λ told. said_front tells served last Limit end late (text_of (codes "fault limit" ∷ [])) told ends))
+
+      -- a read failed, and its line was sent
+      pub unread_ends : source_failed → (taken : List ℕ) × Takes input taken × ServeLeaves s input_limit taken last_read input (Err serve_fault.Read) → EndsWith ReadFault unread_line (record { tells = tells; before = served.seen.sent; now = last.seen.sent }) late end
+          → RunEnds routes papers settings (talk_to last) end
+      unfolding unread_talk served_talk talked
+      unread_ends unreadable (taken, takes, (few, h)) (inl (e, sends)) =
+          subst (RunEnds routes papers settings (talk_to last)) (sym e) (unreadable, (taken, takes, few, (unread_talk taken h (inl (e, sends)), refl, λ told. sent_then taken h unread_line last.seen.sent told (sends told))))
+      unread_ends unreadable (taken, takes, (few, h)) (inr (e, broke, part)) =
+          subst (RunEnds routes papers settings (talk_to last)) (sym e)
+          (so broke, the_last_line taken taken unread_line (unread unreadable few refl refl) takes (unread_talk taken h (inr (e, broke, part))) refl (λ told. let p = part told in (p.0, sent_then taken h (take p.0 unread_line) last.seen.sent told p.1)))
+
+      -- there was more input, and the line that says so was sent
+      pub limit_ends : (taken : List ℕ) × Takes input taken × ServeLeaves s input_limit taken last_read input (Err serve_fault.Limit) → EndsWith Limit past_limit_line (record { tells = tells; before = served.seen.sent; now = last.seen.sent }) late end
+          → RunEnds routes papers settings (talk_to last) end
+      unfolding limit_talk served_talk talked
+      limit_ends (taken, takes, (full, h)) (inl (e, sends)) =
+          subst (RunEnds routes papers settings (talk_to last)) (sym e) (taken, takes, full, (limit_talk (take input_limit taken) h (inl (e, sends)), refl, λ told. sent_then (take input_limit taken) h past_limit_line last.seen.sent told (sends told)))
+      limit_ends (taken, takes, (full, h)) (inr (e, broke, part)) =
+          subst (RunEnds routes papers settings (talk_to last)) (sym e) (
+            so broke,
+            the_last_line taken (take input_limit taken) past_limit_line (past_limit full refl refl) takes (limit_talk (take input_limit taken) h (inr (e, broke, part))) refl
+                (λ told. let p = part told in (p.0, sent_then (take input_limit taken) h (take p.0 past_limit_line) last.seen.sent told p.1)),
+          )

@@ -13,7 +13,7 @@ use Rattle.command_words.specs.declared.command.Command.TheVariants.{Run}
 use Rattle.fleet_cli.specs.Papers.{Files}
 use Rattle.fleet_cli.specs.Words.{RunsWith}
 use Rattle.fleet_cli.specs.Due.{IsAsked, IsDue}
-use Rattle.fleet_cli.specs.Runs.{Line, Talk, sent_on, SidesStay, RunEnds, IsRunSession}
+use Rattle.fleet_cli.specs.Runs.{Line, Talk, sent_on, SidesStay, RunEnds, run_settings}
 
 -- all that a call of the program is handed and leaves: its words, the files and whether the shelf failed, and its talk
 pub record Call : Type 1 where
@@ -48,7 +48,7 @@ pub record IsTextCall (call : Call) (end : Status) : Type 0 where
   pub stay : SidesStay call.talk.line
   pub ends : TextEnds call end
 
--- A call that runs a sound plan, with the journal, the budget and the flag that the words give: how it ends, and that it is a session.
+-- A call that runs a sound plan, with the journal, the budget and the flag that the words give: how it ends.
 pub record IsRunCall (call : Call) (end : Status) : Type 0 where
   pub command : Command
   pub journal : List ℕ
@@ -58,8 +58,7 @@ pub record IsRunCall (call : Call) (end : Status) : Type 0 where
   pub papers : Papers
   pub routes : List (List PlannedVisit)
   pub asked : IsAsked call.files call.words command papers routes
-  pub ends : RunEnds routes papers call.talk end
-  pub session : IsRunSession routes papers call.talk
+  pub ends : RunEnds routes papers (run_settings budget quiet) call.talk end
 
 -- how a call ends: it says one text, or it is a run of a sound plan
 abbrev pub EndsAs : Call → Status → Type 0

@@ -3,7 +3,6 @@ use Rattle.std.specs.Prelude.{ℕ, ◌≡◌, ◌⊎◌, ◌+◌, ◌≤◌, Lis
 use Rattle.std.specs.List.{AllByRecursion}
 use Rattle.fleet_base.specs.declared.geometry.PlannedVisit.{PlannedVisit}
 use Rattle.fleet_base.specs.declared.geometry.Visit.{Visit}
-use Rattle.fleet_base.specs.declared.report.Report.{Report}
 use Rattle.fleet_base.specs.Order.{Graph, graph_of}
 use Rattle.fleet_base.specs.State.{FleetState, IsWindow}
 use Rattle.fleet_base.specs.Release.{IsFirstStateAhead}
@@ -13,6 +12,8 @@ use Rattle.report_text.specs.declared.answer.Answer.TheVariants.{Done}
 use Rattle.report_text.specs.AnswerLine.{answer_line}
 use Rattle.fleet_core.specs.declared.entry.Entry.{Entry}
 use Rattle.fleet_core.specs.Step.{Step}
+use Rattle.journal_frame.specs.Entries.{Accepted}
+use Rattle.fleet_serve.specs.declared.outcome.Settings.{Settings}
 use Rattle.fleet_serve.specs.Lines.{text_of, greeting_of}
 use Rattle.fleet_serve.specs.Turns.{Point, TurnMade, AreTurns, state_after, answers_of}
 
@@ -28,32 +29,36 @@ pub record IsFaultLine (line : List ℕ) : Type 0 where
 abbrev pub IsEnding : List (List ℕ) → Type 0
 IsEnding lines = (lines ≡ []) ⊎ ((line : List ℕ) × IsFaultLine line × (lines ≡ line ∷ []))
 
--- the report of an entry, if there is one
-abbrev pub report_of : Option Entry → List Report
-report_of None = []
-report_of (Some entry) = entry.report ∷ []
+-- an entry as a journal keeps it: the report, and the pairs that are switched for it
+abbrev pub as_kept : Entry → Accepted
+as_kept entry = record { report = entry.report; switched = entry.switched }
 
--- the reports that turns entered
-abbrev pub reports_of : List TurnMade → List Report
-reports_of turns = flat_map (λ turn. report_of turn.entry) turns
+-- the entry of a turn, if there is one
+abbrev pub entry_of : Option Entry → List Accepted
+entry_of None = []
+entry_of (Some entry) = as_kept entry ∷ []
 
--- One session of a life: the limit of a side, the reports that its first state holds, where it stands when it opens, its turns,
--- the state for which the sides stand as the call begins, and what happens then: marks of the session, and moves of robots.
+-- the entries that turns made
+abbrev pub entries_of : List TurnMade → List Accepted
+entries_of turns = flat_map (λ turn. entry_of turn.entry) turns
+
+-- One session of a life: its settings, the entries that its first state holds, where it stands when it opens, its turns, the state
+-- for which the sides stand as the call begins, and what happens then: marks of the session, and moves of robots.
 pub record SessionMade : Type 0 where
-  pub limit : ℕ
-  pub held : List Report
+  pub settings : Settings
+  pub held : List Accepted
   pub start : Point
   pub turns : List TurnMade
   pub first : FleetState
   pub events : List Event
 
--- A mark that a session may have, and the reports that its state then holds. Early, the sides are some that the session may have
+-- A mark that a session may have, and the entries that its state then holds. Early, the sides are some that the session may have
 -- begun with, and of what it sends only a fault line can be there. Kept, the sides stand for the state after some turns, with a
 -- front of the greeting and these turns' answers sent, and a fault line only behind all turns.
-pub data IsMarkOf (routes : List (List PlannedVisit)) (MayBegin : FleetState → List Report → Type 0) (s : SessionMade) (mark : Mark) (held : List Report) : Type 0 where
+pub data IsMarkOf (routes : List (List PlannedVisit)) (MayBegin : FleetState → List Accepted → Type 0) (s : SessionMade) (mark : Mark) (held : List Accepted) : Type 0 where
   early : (ending : List (List ℕ)) → MayBegin mark.state held → IsEnding ending → IsPrefix mark.sent (text_of ending) → IsMarkOf routes MayBegin s mark held
   kept : (made : ℕ) (ending : List (List ℕ)) → IsEnding ending → (ending ≡ []) ⊎ (length s.turns ≤ made) → mark.state ≡ state_after s.start (take made s.turns)
-      → IsPrefix mark.sent (text_of (greeting_of routes s.start.state ++ (answers_of (take made s.turns) ++ ending))) → held ≡ s.held ++ reports_of (take made s.turns) → IsMarkOf routes MayBegin s mark held
+      → IsPrefix mark.sent (text_of (greeting_of routes s.start.state ++ (answers_of (take made s.turns) ++ ending))) → held ≡ s.held ++ entries_of (take made s.turns) → IsMarkOf routes MayBegin s mark held
 
 -- what has been sent at the last mark
 abbrev pub last_sent : List ℕ → List Event → List ℕ
@@ -71,15 +76,15 @@ abbrev pub IsFirst : List (List PlannedVisit) → FleetState → Type 0
 IsFirst routes x = IsWindow x.window × IsFirstStateAhead (graph_of routes) x.window x
 
 -- After these sessions, the last one first, a session may begin with sides that stand for this state, which then holds these
--- reports: the first state if there was none, and else a state that the session before allows at what it has sent.
-abbrev pub MayBegin : List (List PlannedVisit) → List SessionMade → FleetState → List Report → Type 0
+-- entries: the first state if there was none, and else a state that the session before allows at what it has sent.
+abbrev pub MayBegin : List (List PlannedVisit) → List SessionMade → FleetState → List Accepted → Type 0
 MayBegin routes [] x held = IsFirst routes x × (held ≡ [])
 MayBegin routes (s ∷ earlier) x held = IsMarkOf routes (MayBegin routes earlier) s (record { state = x; sent = sent_of s }) held
 
 -- the marks among these events are those of the session, and what is sent stays sent
-abbrev pub AreMarksOf : List (List PlannedVisit) → (FleetState → List Report → Type 0) → SessionMade → List ℕ → List Event → Type 0
+abbrev pub AreMarksOf : List (List PlannedVisit) → (FleetState → List Accepted → Type 0) → SessionMade → List ℕ → List Event → Type 0
 AreMarksOf routes may_begin s sent [] = Unit {0}
-AreMarksOf routes may_begin s sent (Marked mark ∷ es) = ((held : List Report) × IsMarkOf routes may_begin s mark held) × IsPrefix sent mark.sent × AreMarksOf routes may_begin s mark.sent es
+AreMarksOf routes may_begin s sent (Marked mark ∷ es) = ((held : List Accepted) × IsMarkOf routes may_begin s mark held) × IsPrefix sent mark.sent × AreMarksOf routes may_begin s mark.sent es
 AreMarksOf routes may_begin s sent (Begun i ∷ es) = AreMarksOf routes may_begin s sent es
 AreMarksOf routes may_begin s sent (Ended i ∷ es) = AreMarksOf routes may_begin s sent es
 
@@ -90,8 +95,8 @@ first_mark s = record { state = s.first; sent = [] }
 -- a session after these
 pub record IsNextSession (routes : List (List PlannedVisit)) (earlier : List SessionMade) (s : SessionMade) : Type 0 where
   pub begins : MayBegin routes earlier s.start.state s.held
-  pub turns : AreTurns (graph_of routes) routes s.limit s.start s.turns
-  pub opens : (held : List Report) × IsMarkOf routes (MayBegin routes earlier) s (first_mark s) held
+  pub turns : AreTurns (graph_of routes) routes s.settings s.start s.turns
+  pub opens : (held : List Accepted) × IsMarkOf routes (MayBegin routes earlier) s (first_mark s) held
   pub marks : AreMarksOf routes (MayBegin routes earlier) s [] s.events
 
 -- A life: sessions one after another, the last one first. It may end at any event.
@@ -129,35 +134,35 @@ AreAmong more texts = (sent : List ℕ) → Contains more sent → Contains text
 
 -- ---- what is held
 
--- a session answered a report by its number: the report is that of a turn, and the whole line `ok n` stands in what was sent
-pub record IsAnswered (s : SessionMade) (n : ℕ) (report : Report) : Type 0 where
+-- a session answered an entry by its number: the entry is that of a turn, and the whole line `ok n` stands in what was sent
+pub record IsAnswered (s : SessionMade) (n : ℕ) (accepted : Accepted) : Type 0 where
   pub turn : TurnMade
   pub made : Contains s.turns turn
   pub entry : Entry
   pub entry_is : turn.entry ≡ Some entry
-  pub report_is : entry.report ≡ report
+  pub accepted_is : as_kept entry ≡ accepted
   pub number : turn.after.state.count ≡ n
   pub sent : Contains (whole_lines (sent_of s)) (answer_line (Done n))
 
 -- one of the sessions answered it
-abbrev pub IsEverAnswered : List SessionMade → ℕ → Report → Type 0
-IsEverAnswered life n report = (s : SessionMade) × Contains life s × IsAnswered s n report
+abbrev pub IsEverAnswered : List SessionMade → ℕ → Accepted → Type 0
+IsEverAnswered life n accepted = (s : SessionMade) × Contains life s × IsAnswered s n accepted
 
--- the reports hold this one as their number n
-abbrev pub HoldsAs : List Report → ℕ → Report → Type 0
-HoldsAs held n report = (k : ℕ) × (n ≡ k + 1) × (slice_get held k ≡ Some report)
+-- the entries hold this one as their number n
+abbrev pub HoldsAs : List Accepted → ℕ → Accepted → Type 0
+HoldsAs held n accepted = (k : ℕ) × (n ≡ k + 1) × (slice_get held k ≡ Some accepted)
 
--- the state is one in which a session stood after some turns, holding the reports up to there
-pub record IsStateOf (s : SessionMade) (x : FleetState) (held : List Report) : Type 0 where
+-- the state is one in which a session stood after some turns, holding the entries up to there
+pub record IsStateOf (s : SessionMade) (x : FleetState) (held : List Accepted) : Type 0 where
   pub made : ℕ
   pub state : x ≡ state_after s.start (take made s.turns)
-  pub reports : held ≡ s.held ++ reports_of (take made s.turns)
+  pub entries : held ≡ s.held ++ entries_of (take made s.turns)
 
--- steps with these reports, one after another, lead from a state to another; no pair is switched
-abbrev pub LeadTo : Graph → FleetState → List Report → FleetState → Type 0
+-- steps with these entries, one after another, lead from a state to another
+abbrev pub LeadTo : Graph → FleetState → List Accepted → FleetState → Type 0
 LeadTo g x [] y = y ≡ x
-LeadTo g x (report ∷ reports) z = (y : FleetState) × ((releases : List Visit) × Step g x report [] releases y) × LeadTo g y reports z
+LeadTo g x (entry ∷ entries) z = (y : FleetState) × ((releases : List Visit) × Step g x entry.report entry.switched releases y) × LeadTo g y entries z
 
--- the state to which these reports lead from a first state of the plan
-abbrev pub IsStateAfter : List (List PlannedVisit) → List Report → FleetState → Type 0
-IsStateAfter routes reports x = (first : FleetState) × IsFirst routes first × LeadTo (graph_of routes) first reports x
+-- the state to which these entries lead from a first state of the plan
+abbrev pub IsStateAfter : List (List PlannedVisit) → List Accepted → FleetState → Type 0
+IsStateAfter routes entries x = (first : FleetState) × IsFirst routes first × LeadTo (graph_of routes) first entries x

@@ -7,7 +7,8 @@ ghost use Rattle.fleet_cli.specs.Causes.{IsCause};
 ghost use Rattle.fleet_cli.specs.Due.{IsAsked, IsMade};
 ghost use Rattle.fleet_base.specs.Plan.{AreRoutes};
 ghost use Rattle.fleet_base.specs.World.{World, Event, Run, NoCollision};
-ghost use Rattle.fleet_base.specs.declared.report.Report.{Report};
+ghost use Rattle.journal_frame.specs.Entries.{Accepted};
+ghost use Rattle.fleet_serve.specs.declared.outcome.Settings.{Settings};
 ghost use Rattle.fleet_base.specs.Bytes.{whole_lines};
 ghost use Rattle.fleet_base.specs.Order.{graph_of};
 ghost use Rattle.fleet_base.specs.Release.{IsFirstStateAhead};
@@ -17,9 +18,15 @@ ghost use Rattle.report_text.specs.AnswerLine.{answer_line};
 ghost use Rattle.fleet_serve.specs.Lines.{greeting_of, text_of};
 ghost use Rattle.fleet_cli.specs.Lives.{SessionMade, MayBegin, IsLife, IsBeside, IsAnswered, IsEverAnswered, HoldsAs, IsStateOf, IsStateAfter, AreAmong, sent_of};
 ghost use Rattle.fleet_recovery.specs.Papers.{Papers};
+ghost use Rattle.fleet_base.specs.declared.status.Status.{Status};
+ghost use Rattle.station_api.specs.Disk.{IsSending};
+ghost use Rattle.fleet_recovery.specs.Image.{Image, IsImage, StandsFor};
+ghost use Rattle.fleet_serve.specs.Told.{Told, Takes};
+ghost use Rattle.station_api.specs.Causes.{Rose};
+ghost use Rattle.fleet_cli.specs.Runs.{IsTalk, RunEnds, IsRefusal};
 ghost use Rattle.fleet_cli.specs.Sessions.{IsSession, AllStand, KeepsSides, IsSeen, AreSeen, MayGoOn, HasEmptySides, Joins, session_of};
 
-use station_api::Station;
+use station_api::{Source, Station};
 
 /// Over files that are told, a plan that is sound is not refused, unless the shelf failed.
 pub fn a_sound_plan_is_not_refused()
@@ -42,7 +49,7 @@ pub fn words_ask_for_one_text()
 
 /// A new journal opens: for each window there is a life of one session that has sent the greeting of the first state.
 pub fn a_new_journal_opens()
-    ensures { (routes : List (List PlannedVisit)) (limit window : ℕ) (x : FleetState) → IsWindow window → IsFirstStateAhead (graph_of routes) window x → (s : SessionMade) × (s.limit ≡ limit) × IsLife routes (s ∷ []) × (sent_of s ≡ text_of (greeting_of routes x)) }
+    ensures { (routes : List (List PlannedVisit)) (settings : Settings) (window : ℕ) (x : FleetState) → IsWindow window → IsFirstStateAhead (graph_of routes) window x → (s : SessionMade) × (s.settings ≡ settings) × IsLife routes (s ∷ []) × (sent_of s ≡ text_of (greeting_of routes x)) }
 {}
 
 /// In every world beside a life whose reports are true, no two robots occupy one cell, at any point. A life may end at any event,
@@ -51,10 +58,11 @@ pub fn no_collision_beside_a_life()
     ensures { (routes : List (List PlannedVisit)) → AreRoutes routes → (s : SessionMade) (earlier : List SessionMade) → IsLife routes (s ∷ earlier) → (w : World) → IsBeside routes (s ∷ earlier) w → NoCollision routes w }
 {}
 
-/// Where a session may begin, each report that was ever answered is held, as the number that the answer gave it.
+/// Where a session may begin, each report that was ever answered is held, as the number that the answer gave it and with the pairs
+/// that were switched for it.
 pub fn what_was_answered_is_held()
-    ensures { (routes : List (List PlannedVisit)) → AreRoutes routes → (life : List SessionMade) → IsLife routes life → (x : FleetState) (held : List Report) → MayBegin routes life x held
-        → (n : ℕ) (report : Report) → IsEverAnswered life n report → HoldsAs held n report }
+    ensures { (routes : List (List PlannedVisit)) → AreRoutes routes → (life : List SessionMade) → IsLife routes life → (x : FleetState) (held : List Accepted) → MayBegin routes life x held
+        → (n : ℕ) (accepted : Accepted) → IsEverAnswered life n accepted → HoldsAs held n accepted }
 {}
 
 /// A session begins in a state of the session before, or in one in which that session might have begun.
@@ -66,18 +74,66 @@ pub fn a_session_begins_where_the_last_stood()
 /// Each `ok` line that a session sends answers a report that it accepted.
 pub fn an_ok_line_answers_a_report()
     ensures { (routes : List (List PlannedVisit)) → AreRoutes routes → (s : SessionMade) (earlier : List SessionMade) → IsLife routes (s ∷ earlier)
-        → (n : ℕ) → n < 2 ^ 64 → Contains (whole_lines (sent_of s)) (answer_line (Done n)) → (report : Report) × IsAnswered s n report }
+        → (n : ℕ) → n < 2 ^ 64 → Contains (whole_lines (sent_of s)) (answer_line (Done n)) → (accepted : Accepted) × IsAnswered s n accepted }
 {}
 
-/// Where a session may begin, the state is the one to which the reports that it holds lead from the first state of the plan.
-pub fn a_state_is_that_of_its_reports()
-    ensures { (routes : List (List PlannedVisit)) (life : List SessionMade) → IsLife routes life → (x : FleetState) (held : List Report) → MayBegin routes life x held → IsStateAfter routes held x }
+/// Where a session may begin, the state is the one to which the entries that it holds lead from the first state of the plan.
+pub fn a_state_is_that_of_its_entries()
+    ensures { (routes : List (List PlannedVisit)) (life : List SessionMade) → IsLife routes life → (x : FleetState) (held : List Accepted) → MayBegin routes life x held → IsStateAfter routes held x }
 {}
 
 /// Robots that also read texts of other commands, which begin no line with `release`, move as if they had not. So a life goes on
 /// across a call of another command: what such a call sends stands in no mark, since a mark has the bytes of its own session alone.
 pub fn other_commands_move_no_robot()
     ensures { (routes : List (List PlannedVisit)) (texts more : List (List ℕ)) → AreAmong more texts → (w : World) (es : List Event) (w' : World) → Run routes more w es w' → Run routes texts w es w' }
+{}
+
+/// What a run answers and what a stop in it leaves are of one session: it stands where the run stood, and makes the same turns.
+pub fn a_run_has_one_session<S: Source, T: Station>(
+    source: &S,
+    source_then: &S,
+    station: &T,
+    station_then: &T,
+)
+    ensures { (routes : List (List PlannedVisit)) (papers : Papers) (settings : Settings) (bytes : List ℕ) (run : IsTalk routes papers settings (record {
+      input = record { tells = S.tells; before = S.left source.now; now = S.left source_then.now };
+      last_read = S.last source_then.now;
+      source_failed = Rose (S.counts source.now).faults (S.counts source_then.now).faults;
+      line = record { tells = T.tells; old = T.clock station.now; new = T.clock station_then.now; failed = Rose (T.counts station.now).faults (T.counts station_then.now).faults };
+    }) bytes)
+        → T.tells → (call : IsSession routes papers settings (whole_lines bytes) (T.clock station.now) (T.clock station_then.now)) × (call.start ≡ run.start) × (call.turns ≡ run.turns) }
+{}
+
+/// A run over sides that stand for a state is a session, whatever its status: over the first whole lines of what it has taken.
+pub fn a_run_is_a_session<S: Source, T: Station>(
+    source: &S,
+    source_then: &S,
+    station: &T,
+    station_then: &T,
+)
+    ensures { (routes : List (List PlannedVisit)) → AreRoutes routes → (papers : Papers) (settings : Settings) (end : Status) → RunEnds routes papers settings (record {
+      input = record { tells = S.tells; before = S.left source.now; now = S.left source_then.now };
+      last_read = S.last source_then.now;
+      source_failed = Rose (S.counts source.now).faults (S.counts source_then.now).faults;
+      line = record { tells = T.tells; old = T.clock station.now; new = T.clock station_then.now; failed = Rose (T.counts station.now).faults (T.counts station_then.now).faults };
+    }) end
+        → T.tells → (x : FleetState) → StandsFor routes papers (T.clock station.now).seen x → (taken : List ℕ) × Takes (record { tells = S.tells; before = S.left source.now; now = S.left source_then.now }) taken × IsSession routes papers settings (whole_lines taken) (T.clock station.now) (T.clock station_then.now) }
+{}
+
+/// A run over sides that mean a refusal leaves both as they are, for a stop too, whatever its status.
+pub fn a_refused_journal_stays<S: Source, T: Station>(
+    source: &S,
+    source_then: &S,
+    station: &T,
+    station_then: &T,
+)
+    ensures { (routes : List (List PlannedVisit)) → AreRoutes routes → (papers : Papers) (settings : Settings) (end : Status) → RunEnds routes papers settings (record {
+      input = record { tells = S.tells; before = S.left source.now; now = S.left source_then.now };
+      last_read = S.last source_then.now;
+      source_failed = Rose (S.counts source.now).faults (S.counts source_then.now).faults;
+      line = record { tells = T.tells; old = T.clock station.now; new = T.clock station_then.now; failed = Rose (T.counts station.now).faults (T.counts station_then.now).faults };
+    }) end
+        → T.tells → (image : Image) → IsRefusal image → IsImage routes papers (T.clock station.now).seen image → IsSending (T.clock station.now) (T.clock station_then.now) }
 {}
 
 /// Two empty sides begin a life.
@@ -88,15 +144,15 @@ pub fn empty_sides_begin_a_life()
 /// A call that is a session, on what a life may have left, is the next session of that life, with any marks of what stops in it
 /// may have left; and what it leaves may begin the session after it.
 pub fn a_call_joins_a_life<T: Station>(old: &T, new: &T)
-    ensures { (routes : List (List PlannedVisit)) → AreRoutes routes → (papers : Papers) (limit : ℕ) (lines : List (List ℕ)) (call : IsSession routes papers limit lines (T.clock old.now) (T.clock new.now))
+    ensures { (routes : List (List PlannedVisit)) → AreRoutes routes → (papers : Papers) (settings : Settings) (lines : List (List ℕ)) (call : IsSession routes papers settings lines (T.clock old.now) (T.clock new.now))
         → (earlier : List SessionMade) → MayGoOn routes papers earlier (T.clock old.now).may_leave
         → (first : FleetState) (events : List Event) → IsSeen routes papers (T.clock old.now) (T.clock new.now) (record { state = first; sent = [] }) → AreSeen routes papers (T.clock old.now) (T.clock new.now) [] events
-        → (held : List Report) × Joins routes papers (T.clock old.now) (T.clock new.now) earlier (session_of limit call.start call.turns held first events) }
+        → (held : List Accepted) × Joins routes papers (T.clock old.now) (T.clock new.now) earlier (session_of settings call.start call.turns held first events) }
 {}
 
 /// At each moment of a session the sides stand for a state, if they did as it began.
 pub fn a_session_keeps_a_state<T: Station>(old: &T, new: &T)
-    ensures { (routes : List (List PlannedVisit)) (papers : Papers) (limit : ℕ) (lines : List (List ℕ)) → IsSession routes papers limit lines (T.clock old.now) (T.clock new.now)
+    ensures { (routes : List (List PlannedVisit)) (papers : Papers) (settings : Settings) (lines : List (List ℕ)) → IsSession routes papers settings lines (T.clock old.now) (T.clock new.now)
         → AllStand routes papers (T.clock old.now).may_leave → AllStand routes papers ((T.clock new.now).left_since (T.clock old.now).moment) }
 {}
 

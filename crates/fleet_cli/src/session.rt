@@ -1,20 +1,19 @@
 // A run of a plan: its journal, its session, and the line that ends it.
-ghost use Rattle.std.specs.Prelude.{◌≡◌, ◌≤◌, ◌^◌, ℕ, List, ◌+◌, length, IfOk, IfErr, IsErrOf};
+ghost use Rattle.std.specs.Prelude.{◌≡◌, ◌⊎◌, ◌≤◌, ◌^◌, ◌+◌, ℕ, length, false, IfOk, IfErr, IsErrOf};
 ghost use Rattle.fleet_base.specs.Order.{graph_of};
 ghost use Rattle.fleet_base.specs.Pairs.{pairs_of};
 ghost use Rattle.fleet_base.specs.Plan.{AreRoutes};
-ghost use Rattle.fleet_base.specs.State.{FleetState};
 ghost use Rattle.fleet_base.specs.Rules.{IsFleetState};
-ghost use Rattle.station_api.specs.Clock.{LeavesOnly};
+ghost use Rattle.station_api.specs.Clock.{LeavesOnly, LeavesNow};
 ghost use Rattle.station_api.specs.Causes.{Counted, IsToBlame, Rose};
 ghost use Rattle.station_api.specs.Disk.{IsQuiet};
-ghost use Rattle.fleet_recovery.specs.Image.{IsImage, StandsFor};
+ghost use Rattle.fleet_recovery.specs.Image.{IsImage};
 ghost use Rattle.fleet_recovery.specs.Answers.{RecoverRefuses, UnlessStation};
-ghost use Rattle.fleet_recovery.specs.Opening.{IsOpening, Opens, IsAtRest};
+ghost use Rattle.fleet_recovery.specs.Opening.{IsOpening, StandsStill, Opens, IsAtRest};
+ghost use Rattle.search_nodes.specs.Rooms.{IsRoomFor};
 ghost use Rattle.fleet_serve.specs.Told.{Told};
 ghost use Rattle.fleet_cli.specs.Papers.{bytes_of};
-ghost use Rattle.fleet_cli.specs.Runs.{Line, Talk, OpenEnds, RunEnds, IsRunSession, side_limit};
-ghost use Rattle.fleet_cli.specs.Sessions.{IsSession as IsSessionOver};
+ghost use Rattle.fleet_cli.specs.Runs.{Line, Talk, OpenEnds, RunEnds, run_settings};
 
 use crate::papers::Papers;
 use crate::refusing::refuse;
@@ -54,18 +53,12 @@ pub fn run<S: Source, T: Station>(
     requires pairs { papers.now.pairs ≡ pairs_of papers.now.plan }
     requires small_map { length papers.now.map.items ≤ 2 ^ 25 }
     requires small_plan { length papers.now.text.items ≤ 2 ^ 25 }
-    ensures ends { RunEnds papers.now.plan (bytes_of papers.now) (record {
+    ensures ends { RunEnds papers.now.plan (bytes_of papers.now) (run_settings budget quiet) (record {
       input = record { tells = S.tells; before = S.left source.old; now = S.left source.new };
       last_read = S.last source.new;
       source_failed = Rose (S.counts source.old).faults (S.counts source.new).faults;
       line = record { tells = T.tells; old = T.clock station.old; new = T.clock station.new; failed = Rose (T.counts station.old).faults (T.counts station.new).faults };
     }) result }
-    ensures session { IsRunSession papers.now.plan (bytes_of papers.now) (record {
-      input = record { tells = S.tells; before = S.left source.old; now = S.left source.new };
-      last_read = S.last source.new;
-      source_failed = Rose (S.counts source.old).faults (S.counts source.new).faults;
-      line = record { tells = T.tells; old = T.clock station.old; new = T.clock station.new; failed = Rose (T.counts station.old).faults (T.counts station.new).faults };
-    }) }
     ensures source { Counted (S.counts source.old) (S.counts source.new) }
     ensures station { Counted (T.counts station.old) (T.counts station.new) }
 {
@@ -127,12 +120,12 @@ fn open<T: Station>(
     requires small_plan { length papers.now.text.items ≤ 2 ^ 25 }
     ensures graph { IfOk result (λ session. session.graph ≡ graph_of papers.now.plan) }
     ensures rules { IfOk result (λ session. IsFleetState (graph_of papers.now.plan) session.fleet) }
+    ensures room { IfOk result (λ session. IsRoomFor (graph_of papers.now.plan) session.kit.room) }
     ensures restores { T.tells → IfOk result (λ session. Opens papers.now.plan (bytes_of papers.now) (T.clock station.old).seen session.fleet session.journal.place) }
     ensures rests { T.tells → IfOk result (λ session. IsAtRest papers.now.plan (bytes_of papers.now) session.journal session.fleet (T.clock station.new)) }
     ensures opening { T.tells → IfOk result (λ _. LeavesOnly (IsOpening papers.now.plan (bytes_of papers.now) (T.clock station.old)) (T.clock station.old) (T.clock station.new)) }
     ensures unsent { T.tells → IfOk result (λ _. (T.clock station.new).seen.sent ≡ (T.clock station.old).seen.sent) }
     ensures refused { IfErr result (OpenEnds papers.now.plan (bytes_of papers.now) (record { tells = T.tells; old = T.clock station.old; new = T.clock station.new; failed = Rose (T.counts station.old).faults (T.counts station.new).faults })) }
-    ensures session { T.tells → IfErr result (λ _. (x : FleetState) → StandsFor papers.now.plan (bytes_of papers.now) (T.clock station.old).seen x → (lines : List (List ℕ)) → IsSessionOver papers.now.plan (bytes_of papers.now) side_limit lines (T.clock station.old) (T.clock station.new)) }
     ensures counted { Counted (T.counts station.old) (T.counts station.new) }
 {
     match station.attach(alloc, journal) {
@@ -157,12 +150,14 @@ fn restore<T: Station>(
     requires small_plan { length papers.now.text.items ≤ 2 ^ 25 }
     ensures graph { IfOk result (λ session. session.graph ≡ graph_of papers.now.plan) }
     ensures rules { IfOk result (λ session. IsFleetState (graph_of papers.now.plan) session.fleet) }
+    ensures room { IfOk result (λ session. IsRoomFor (graph_of papers.now.plan) session.kit.room) }
     ensures any_moment { T.tells → LeavesOnly (IsOpening papers.now.plan (bytes_of papers.now) (T.clock station.old)) (T.clock station.old) (T.clock station.new) }
     ensures restores { T.tells → IfOk result (λ session. Opens papers.now.plan (bytes_of papers.now) (T.clock station.old).seen session.fleet session.journal.place) }
     ensures rests { T.tells → IfOk result (λ session. IsAtRest papers.now.plan (bytes_of papers.now) session.journal session.fleet (T.clock station.new)) }
     ensures unsent { T.tells → (T.clock station.new).seen.sent ≡ (T.clock station.old).seen.sent }
-    ensures refused { IfErr result (RecoverRefuses (λ image. T.tells → IsImage papers.now.plan (bytes_of papers.now) (T.clock station.old).seen image) (length papers.now.map.items + length papers.now.text.items + 28) side_limit) }
+    ensures refused { IfErr result (RecoverRefuses (λ image. T.tells → IsImage papers.now.plan (bytes_of papers.now) (T.clock station.old).seen image) (length papers.now.map.items + length papers.now.text.items + 28) (2 ^ 30)) }
     ensures stays { T.tells → IfErr result (UnlessStation (IsQuiet (T.clock station.old) (T.clock station.new))) }
+    ensures afterwards { T.tells → IsQuiet (T.clock station.old) (T.clock station.new) ⊎ LeavesNow (StandsStill papers.now.plan (bytes_of papers.now) (T.clock station.old).seen) (T.clock station.new) }
     ensures counted { Counted (T.counts station.old) (T.counts station.new) }
     ensures cause { IsErrOf result (RecoverError.Journal JournalError.Station) → IsToBlame (T.counts station.old) (T.counts station.new) }
 {

@@ -1,15 +1,16 @@
-use Rattle.std.proofs.Common.{ℕ, ◌∙◌, List, [], ◌∷◌, ◌++◌, refl, sym, ap, inl, append-nil}
+use Rattle.std.proofs.Common.{◌∙◌, List, [], ◌∷◌, ◌++◌, refl, sym, ap, inl, append-nil}
 use Rattle.fleet_base.specs.declared.geometry.PlannedVisit.{PlannedVisit}
 use Rattle.fleet_base.specs.State.{FleetState}
 use Rattle.fleet_base.specs.World.{Marked}
+use Rattle.fleet_serve.specs.declared.outcome.Settings.{Settings}
 use Rattle.fleet_serve.specs.Lines.{greeting_of, text_of}
 use Rattle.fleet_cli.specs.Lives.{SessionMade, kept}
 use Rattle.fleet_cli.proofs.LivesJoining.{first_of}
 use Rattle.fleet_cli.proofs.laws.a_new_journal_opens.Goals as goal
 
-opened : List (List PlannedVisit) → ℕ → FleetState → SessionMade
-opened routes limit x = record {
-  limit = limit;
+opened : List (List PlannedVisit) → Settings → FleetState → SessionMade
+opened routes settings x = record {
+  settings = settings;
   held = [];
   start = record { state = x; place = 0 };
   turns = [];
@@ -19,9 +20,9 @@ opened routes limit x = record {
 
 pub returns : goal.returns
 unfolding opened
-returns c = λ routes limit window x may first.
+returns c = λ routes settings window x may first.
     let lines = greeting_of routes x in (
-      opened routes limit x,
+      opened routes settings x,
       refl,
       (
         record {

@@ -71,7 +71,6 @@ returns-in-Ok-Serve-clause-ends g c =
       routes = c.in-Ok-Serve.papers.plan;
       asked = task.2.0;
       ends = c.run.ensures.ends;
-      session = c.run.ensures.session;
     })
 
 pub returns-in-Ok-Serve-clause-complete : goal.returns-in-Ok-Serve-clause-complete
