@@ -2,8 +2,7 @@
 use std::alloc::Global;
 use std::test::Fail;
 use trial_base::{
-    CORRIDOR, CROSSING, CROSSING_MAP, Script, Texts, WHOLE_PLAN, WITH_DELAYS, joined, session,
-    station_of,
+    CROSSING, CROSSING_MAP, Script, Texts, WHOLE_PLAN, WITH_DELAYS, joined, session, station_of,
 };
 
 /// How a first session ends that hears these reports, and what it sends.
@@ -16,15 +15,17 @@ fn run_of(alloc: Global, texts: Texts<'_>, reports: &[u8]) -> Result<(u8, Vec<u8
 /// Reports over the crossing, and the answers to them.
 type Row = (&'static [u8], &'static [u8]);
 
-const ANSWERS: [Row; 14] = [
+const ANSWERS: [Row; 13] = [
     (b"", b""),
     (b"arrive 0 2 1\n", b"refused unreleased\n"),
     (
         b"arrive 0 1 1\narrive 0 1 1\narrive 0 1 0\n",
         b"release 0 2 1 2\nok 1\nknown\nknown\n",
     ),
-    (b"delay 0 1 5 0\ndelay 0 1 5 0\n", b"ok 1\nknown\n"),
-    (b"delay 0 1 5 0\ndelay 0 1 6 0\n", b"ok 1\nok 2\n"),
+    (
+        b"delay 0 1 5 0\ndelay 0 1 5 0\n",
+        b"order optimal 11\nswitch 0\ncert bound\nrelease 1 1 1 2\nok 1\nknown\n",
+    ),
     (
         b"arrive 0 1 1000000000000\narrive 0 2 1000000000001\narrive 0 2 5\n",
         b"release 0 2 1 2\nok 1\nrefused tick\nrefused tick\n",
@@ -39,7 +40,7 @@ const ANSWERS: [Row; 14] = [
     ),
     (
         b"delay 1 1 1000000 0\ndelay 1 1 1000000 9\n",
-        b"ok 1\nknown\n",
+        b"order optimal 1000009\ncert branch 0\ncert bound\ncert path 1 1 0\ncert bound\ncert path 0 1 0\nok 1\nknown\n",
     ),
     (
         b"arrive 0 02 1\n\narrive 0 1\n arrive 0 1 1\n",
@@ -53,7 +54,7 @@ const ANSWERS: [Row; 14] = [
     ),
     (
         b"arrive 0 1 1\ndelay 0 2 3 1\narrive 0 2 5\ndelay 1 1 2 5\narrive 0 3 6\n",
-        b"release 0 2 1 2\nok 1\nok 2\nrelease 0 3 1 3\nok 3\nok 4\nrelease 0 4 1 4\nrelease 1 1 1 2\nok 5\n",
+        b"release 0 2 1 2\nok 1\norder optimal 15\ncert bound\ncert path 1 1 0\nok 2\nrelease 0 3 1 3\nok 3\norder optimal 17\ncert bound\ncert path 1 1 0\nok 4\nrelease 0 4 1 4\nrelease 1 1 1 2\nok 5\n",
     ),
 ];
 
@@ -105,7 +106,7 @@ fn the_whole_plan_runs(rt: HostRuntime) -> Result<(), Fail> {
 /// A plan, reports, and status and lines of a first session.
 type Run = (Texts<'static>, &'static [u8], u8, &'static [u8]);
 
-const RUNS: [Run; 7] = [
+const RUNS: [Run; 6] = [
     (
         (
             b"type octile\nheight 1\nwidth 4\nmap\n....\n",
@@ -116,19 +117,13 @@ const RUNS: [Run; 7] = [
         b"ready 0\nrelease 2 1 0 3\nrelease 1 1 0 2\nok 1\n",
     ),
     (
-        CORRIDOR,
-        b"delay 0 1 5 0\n",
-        0,
-        b"ready 0\nrelease 0 1 1 0\nok 1\n",
-    ),
-    (
         (
             CROSSING_MAP,
             b"Agent 0: (0,2)->(0,2)->(1,2)\nAgent 1: (1,1)->(1,2)->(1,3)\n",
         ),
         b"delay 1 1 5 0\narrive 1 1 1\narrive 1 2 2\n",
         0,
-        b"ready 0\nrelease 1 1 1 2\nok 1\nrelease 1 2 1 3\nok 2\nrelease 0 1 1 2\nok 3\n",
+        b"ready 0\nrelease 1 1 1 2\norder optimal 15\ncert bound\ncert path 0 1 0\nok 1\nrelease 1 2 1 3\nok 2\nrelease 0 1 1 2\nok 3\n",
     ),
     (
         (

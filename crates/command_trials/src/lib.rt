@@ -6,6 +6,8 @@ mod answering;
 #[cfg(test)]
 mod checking;
 #[cfg(test)]
+mod choosing;
+#[cfg(test)]
 mod generating;
 #[cfg(test)]
 mod planning;

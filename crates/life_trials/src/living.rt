@@ -7,12 +7,17 @@ use station_api::MemStation;
 use std::alloc::Global;
 use std::process::Abort;
 use std::test::Fail;
-use trial_base::{CORRIDOR, CROSSING, ROW, answers_in, kept_by, sent_behind, session, station_of};
+use trial_base::{
+    CORRIDOR, CROSSING, ROW, answers_in, kept_by, sent_behind, session_with, station_of,
+};
 
 /// How many sessions a life has before the last one, and how many events a session has at most.
 const SESSIONS: u32 = 5;
 
 const EVENTS: u32 = 60;
+
+/// What the searches of a session may be set to.
+const BUDGETS: [&str; 4] = ["0", "1", "2", "4096"];
 
 /// How many rounds the last session may have, in each of which every robot may arrive at one more visit.
 const ROUNDS: u32 = 40;
@@ -24,14 +29,15 @@ struct Kept {
     most: u64,
 }
 
-/// A life so far: its robots, its dice, how many bytes its answer line takes at a time, what is kept, and how often a stop
-/// left a report kept that was not answered.
+/// A life so far: its robots, its dice, how many bytes its answer line takes at a time, the budget of its session's searches,
+/// what is kept, and how often a stop left a report kept that was not answered.
 #[derive(Drop)]
 struct Life {
     trial: Trial,
     world: World,
     dice: Dice,
     most: u64,
+    budget: &'static str,
     kept: Kept,
     unanswered: u32,
 }
@@ -44,6 +50,7 @@ fn life_of(alloc: Global, trial: &Trial, state: u64) -> Result<Life, Fail> {
         world: World::new(alloc, trial)?,
         dice,
         most,
+        budget: "0",
         kept: Kept { least: 0, most: 0 },
         unanswered: 0,
     })
@@ -58,7 +65,8 @@ fn played(
 ) -> Result<MemStation, Fail> {
     let mut station = began.stopped(alloc, u64::MAX, u64::MAX, 0)?;
     station.take_at_most(life.most.max(1));
-    match session(alloc, life.trial.texts, reports, &mut station)? {
+    let options = ["--budget", life.budget];
+    match session_with(alloc, life.trial.texts, &options, reports, &mut station)? {
         0 => Ok(station),
         _ => Err(Fail::from("a session that ends well")),
     }
@@ -92,6 +100,12 @@ fn stop(
     let kept = [u64::MAX, 0, 1, 2].get(dice.roll(4) as usize).copied();
     let fill = [0, 1, 7, 255].get(dice.roll(4) as usize).copied();
     Ok(whole.stopped(alloc, calls, kept.unwrap_or(0), fill.unwrap_or(0))?)
+}
+
+/// The next session has another budget.
+fn set_budget(life: &mut Life) {
+    let place = life.dice.roll(4) as usize;
+    life.budget = BUDGETS.get(place).copied().unwrap_or("0");
 }
 
 /// The number of some robot.
@@ -130,8 +144,9 @@ fn next_report(alloc: Global, life: &mut Life) -> Result<Option<Report>, Fail> {
     let line = if is_arrival {
         life.world.arrival(alloc, robot)?
     } else {
+        let ahead = u32::try_from(life.dice.roll(3)).ok().unwrap_or(0);
         let extra = life.dice.roll(9);
-        life.world.delay(alloc, robot, extra)?
+        life.world.delay(alloc, robot, ahead, extra)?
     };
     match line {
         Some(line) => Ok(Some(Report {
@@ -206,6 +221,7 @@ fn live_on(
 ) -> Result<MemStation, Fail> {
     let front = began.sent().len();
     let mut reports = Vec::new(alloc);
+    set_budget(life);
     let mut now = played(alloc, life, began, &reports)?;
     note_greeting(rt, life, &said_behind(alloc, &now, front)?)?;
     if life.dice.roll(6) == 0 {

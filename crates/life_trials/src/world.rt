@@ -122,16 +122,19 @@ impl World {
         }
     }
 
-    /// The report of a delay of a robot's move to the visit behind the last one of which an arrival is answered.
+    /// The report of a delay of a robot's move to a visit, so many ahead of the one behind the last of which an arrival is
+    /// answered.
     pub fn delay(
         &mut self,
         alloc: Global,
         number: u32,
+        ahead: u32,
         extra: u64,
     ) -> Result<Option<String>, Fail> {
         match self.robots.get(number as usize) {
             Some(robot) if robot.answered < robot.last => {
-                let index = robot.answered.wrapping_add(1);
+                let index = robot.answered.saturating_add(ahead).saturating_add(1);
+                let index = index.min(robot.last);
                 self.tick = self.tick.wrapping_add(1);
                 let mut line = String::new(alloc);
                 writeln!(line, "delay {number} {index} {extra} {}", self.tick)?;

@@ -85,7 +85,7 @@ fn with_byte(alloc: Global, place: usize, byte: u8) -> Result<Vec<u8>, Fail> {
 
 #[test]
 fn entries_are_steps(rt: HostRuntime) -> Result<(), Fail> {
-    let rows: [(&[u8], Answer, usize); 10] = [
+    let rows: [(&[u8], Answer, usize); 12] = [
         (b"\0", Ok(0), 165),
         (b"\x01", bad_record(1), 165),
         // `arrive 0 1 1`, behind each gate.
@@ -116,7 +116,7 @@ fn entries_are_steps(rt: HostRuntime) -> Result<(), Fail> {
             bad_record(2),
             209,
         ),
-        // `delay 0 1 5 0`, without a pair and with one.
+        // `delay 0 1 5 0`: without a pair, with one, and with one that is not there.
         (
             b"\x01\0\0\0\x19\x02\0\0\0\0\0\0\0\x01\0\0\0\x05\0\0\0\0\0\0\0\0\0\0\0\0\0",
             Ok(1),
@@ -124,7 +124,18 @@ fn entries_are_steps(rt: HostRuntime) -> Result<(), Fail> {
         ),
         (
             b"\x01\0\0\0\x1d\x02\0\0\0\0\0\0\0\x01\0\0\0\x05\0\0\0\0\0\0\0\0\0\0\0\x01\0\0\0\0\0",
+            Ok(1),
+            199,
+        ),
+        (
+            b"\x01\0\0\0\x1d\x02\0\0\0\0\0\0\0\x01\0\0\0\x05\0\0\0\0\0\0\0\0\0\0\0\x01\0\0\0\x01\0",
             bad_record(1),
+            199,
+        ),
+        // `delay 1 1 50 0` with a pair, which makes the order no cheaper: it is the entry's.
+        (
+            b"\x01\0\0\0\x1d\x02\0\0\0\x01\0\0\0\x01\0\0\0\x32\0\0\0\0\0\0\0\0\0\0\0\x01\0\0\0\0\0",
+            Ok(1),
             199,
         ),
         // A front of a frame behind a closed gate.

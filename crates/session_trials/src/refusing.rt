@@ -110,7 +110,7 @@ fn the_journal_of_another_plan_is_refused(rt: HostRuntime) -> Result<(), Fail> {
 
 #[test]
 fn an_entry_that_is_no_step_is_refused(rt: HostRuntime) -> Result<(), Fail> {
-    let rows: [(&[u8], &[u8]); 3] = [
+    let rows: [(&[u8], &[u8]); 5] = [
         // `arrive 0 2 1`, which is not released
         (
             b"\x01\0\0\0\x11\x01\0\0\0\0\0\0\0\x02\0\0\0\0\0\0\0\x01\0",
@@ -119,6 +119,16 @@ fn an_entry_that_is_no_step_is_refused(rt: HostRuntime) -> Result<(), Fail> {
         // `arrive 0 1 1` twice
         (
             b"\x01\0\0\0\x11\x01\0\0\0\0\0\0\0\x01\0\0\0\0\0\0\0\x01\x01\0\0\0\x11\x01\0\0\0\0\0\0\0\x01\0\0\0\0\0\0\0\x01\0",
+            b"fault record 2\n",
+        ),
+        // `delay 0 1 5 0` with pair 1, which is not there
+        (
+            b"\x01\0\0\0\x1d\x02\0\0\0\0\0\0\0\x01\0\0\0\x05\0\0\0\0\0\0\0\0\0\0\0\x01\0\0\0\x01\0",
+            b"fault record 1\n",
+        ),
+        // `delay 0 1 5 0` with pair 0, and then `delay 1 1 50 0` with it, which is closed by then
+        (
+            b"\x01\0\0\0\x1d\x02\0\0\0\0\0\0\0\x01\0\0\0\x05\0\0\0\0\0\0\0\0\0\0\0\x01\0\0\0\0\x01\0\0\0\x1d\x02\0\0\0\x01\0\0\0\x01\0\0\0\x32\0\0\0\0\0\0\0\0\0\0\0\x01\0\0\0\0\0",
             b"fault record 2\n",
         ),
         // `arrive 0 1 1` in a frame that ends too early

@@ -67,7 +67,7 @@ fn assert_stops(
 
 #[test]
 fn a_stop_leaves_a_report_or_none_of_it(rt: HostRuntime) -> Result<(), Fail> {
-    for (script, length) in [(&WHOLE_PLAN, 187), (&WITH_DELAYS, 195)] {
+    for (script, length) in [(&WHOLE_PLAN, 187), (&WITH_DELAYS, 199)] {
         for stop in &STOPS {
             assert_stops(&rt, rt.alloc(), script, length, stop)?;
         }

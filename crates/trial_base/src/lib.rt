@@ -7,7 +7,8 @@ mod papers;
 mod reading;
 
 pub use outside::{
-    end_of, joined, next_session, play, sent_behind, session, shelf_of, side_a, side_b, station_of,
+    end_of, joined, next_session, play, sent_behind, session, session_with, shelf_of, side_a,
+    side_b, station_of,
 };
 pub use papers::{
     CORRIDOR, CORRIDOR_MAP, CORRIDOR_PLAN, CROSSING, CROSSING_MAP, CROSSING_PLAN, ROW, Script,

@@ -16,10 +16,16 @@ use std::test::Fail;
 /// Words as the program takes them.
 fn word_list(alloc: Global, words: &[&str]) -> Result<Vec<String>, Fail> {
     let mut list = Vec::new(alloc);
+    push_words(alloc, &mut list, words)?;
+    Ok(list)
+}
+
+/// Puts words behind those of a list.
+fn push_words(alloc: Global, list: &mut Vec<String>, words: &[&str]) -> Result<(), Fail> {
     for word in words {
         list.push(String::from_str(alloc, word)?)?;
     }
-    Ok(list)
+    Ok(())
 }
 
 /// A shelf with a map `M` and a plan `P`, which fails at these calls.
@@ -65,15 +71,22 @@ pub fn session<T: Station>(
     reports: &[u8],
     station: &mut T,
 ) -> Result<u8, Fail> {
+    session_with(alloc, texts, &[], reports, station)
+}
+
+/// The same with these words behind the names.
+pub fn session_with<T: Station>(
+    alloc: Global,
+    texts: Texts<'_>,
+    options: &[&str],
+    reports: &[u8],
+    station: &mut T,
+) -> Result<u8, Fail> {
     let mut shelf = shelf_of(alloc, texts, &[])?;
     let mut source = MemSource::new(alloc, reports.to_vec(alloc)?, Vec::new(alloc));
-    end_of(
-        alloc,
-        &["run", "M", "P", "J"],
-        &mut shelf,
-        &mut source,
-        station,
-    )
+    let mut words = word_list(alloc, &["run", "M", "P", "J"])?;
+    push_words(alloc, &mut words, options)?;
+    Ok(fleet_main(alloc, &words, &mut shelf, &mut source, station).code())
 }
 
 /// The same over the crossing, with the first reports of a script.

@@ -8,6 +8,7 @@ ghost use Rattle.station_api.specs.Clock.{IsKept};
 ghost use Rattle.station_api.specs.StationState.{station_clock};
 ghost use Rattle.fleet_journal.specs.Sides.{IsBlankJournal};
 ghost use Rattle.fleet_journal.specs.Journal.{IsHeaderText};
+ghost use Rattle.search_nodes.specs.Rooms.{IsRoomFor};
 ghost use Rattle.fleet_recovery.specs.Papers.{new_header, papers_in};
 ghost use Rattle.fleet_recovery.specs.Opening.{IsAtRest, StandsWith};
 
@@ -106,6 +107,7 @@ fn answer<T: Station>(
     requires graph { graph.now ≡ graph_of plan.now }
     requires state { IsFleetState graph.now fleet }
     requires stands { T.tells → StandsWith plan.now (papers_in papers.now) journal fleet (T.clock station.old).seen }
+    requires room { IsRoomFor graph.now kit.old.room }
 {
     let mut fleet = fleet;
     let mut journal = journal;

@@ -166,7 +166,7 @@ fn end_of<S: Source>(
 
 #[test]
 fn a_side_holds_what_it_has_room_for(rt: HostRuntime) -> Result<(), Fail> {
-    let rows: [(u64, &[u8], &[u8], usize); 6] = [
+    let rows: [(u64, &[u8], &[u8], usize); 7] = [
         (
             186,
             b"arrive 0 1 1\narrive 0 2 2\n",
@@ -193,7 +193,19 @@ fn a_side_holds_what_it_has_room_for(rt: HostRuntime) -> Result<(), Fail> {
         ),
         // A delay has room for each open pair, of which there is one.
         (198, b"delay 0 1 5 0\n", b"refused full\n", 165),
-        (199, b"delay 0 1 5 0\n", b"ok 1\n", 195),
+        (
+            199,
+            b"delay 0 1 5 0\n",
+            b"order optimal 11\nswitch 0\ncert bound\nrelease 1 1 1 2\nok 1\n",
+            199,
+        ),
+        // The gate moves by the frame that is written, which names no pair here.
+        (
+            199,
+            b"delay 1 1 1 0\n",
+            b"order spent 10 7\ncert open 7\nok 1\n",
+            195,
+        ),
     ];
     for (limit, reports, answers, length) in rows {
         let mut source = at_once(rt.alloc(), reports)?;
@@ -250,7 +262,12 @@ const TURNS: [Row; 10] = [
         Turn::Done { count: 1 },
         b"release 0 2 1 2\nok 1\n",
     ),
-    (b"", b"delay 0 1 3 1", Turn::Done { count: 1 }, b"ok 1\n"),
+    (
+        b"",
+        b"delay 0 1 3 1",
+        Turn::Done { count: 1 },
+        b"order optimal 10\nswitch 0\ncert bound\nrelease 1 1 1 2\nok 1\n",
+    ),
     (b"arrive 0 1 1\n", b"arrive 0 1 0", Turn::Known, b"known\n"),
     (
         b"",
