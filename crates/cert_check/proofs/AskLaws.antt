@@ -11,15 +11,16 @@ use Rattle.fleet_base.specs.State.{FleetState, arrived_count, duration_of}
 use Rattle.plan_graph.proofs.Numbers.{not_numbered}
 use Rattle.fleet_base.specs.declared.order.Edge.{Edge}
 use Rattle.fleet_base.specs.Paths.{edge_in}
-use Rattle.cert_check.specs.Rounds.{floor, along_bound, edge_bound, pair_bound, asked, raised}
+use Rattle.cert_check.specs.Rounds.{along_bound, edge_bound, pair_bound, asked, raised}
 use Rattle.fleet_base.proofs.Walking.{edge_has}
+use Rattle.fleet_base.specs.Schedule.{own_tick}
 use Rattle.cert_check.proofs.Least.{pair_within, raised_ahead, edge_asked}
 use Rattle.std.proofs.lemmas.Option.{slice_get_within}
 
 module _ (g : Graph) (x : FleetState) (order : ℕ → Option Side) (f : Visit → ℕ) (v : Visit) where
   -- the first n pairs of the visit have asked
   pub record HasAsked (n tick : ℕ) : Type 0 where
-    pub least : floor x v ≤ tick
+    pub least : own_tick x v ≤ tick
     pub along : along_bound x f v v.index ≤ tick
     pub pairs : (k : ℕ) (q : PairId) → k < n → slice_get (numbers_of g.pairs v) k ≡ Some q → edge_bound x f v (edge_in g order q.0) ≤ tick
     pub no_more : tick ≤ asked g x order f v
@@ -47,7 +48,7 @@ module _ (g : Graph) (x : FleetState) (order : ℕ → Option Side) (f : Visit �
       go (inl lt) = one_of (length g.pairs) q lt
       go (inr ge) = omega (arith, beyond 0 q ge)
 
-  pub asked_start : (tick : ℕ) → tick ≡ max (floor x v) (along_bound x f v v.index) → HasAsked 0 tick
+  pub asked_start : (tick : ℕ) → tick ≡ max (own_tick x v) (along_bound x f v v.index) → HasAsked 0 tick
   asked_start tick e = record { least = omega (arith, e); along = omega (arith, e); pairs = λ k q lt s. absurd (omega (arith, lt)); no_more = omega (arith, e) }
 
   pub asked_more : (n tick later bound : ℕ) (q : PairId) → HasAsked n tick → slice_get (numbers_of g.pairs v) n ≡ Some q → bound ≡ edge_bound x f v (edge_in g order q.0) → later ≡ max tick bound → HasAsked (n + 1) later

@@ -6,12 +6,11 @@ use Rattle.fleet_base.specs.declared.geometry.Visit.{Visit}
 use Rattle.fleet_base.specs.declared.order.Side.{Side}
 use Rattle.fleet_base.specs.Order.{Graph, IsVisit, IsSorted, order_of, last_in}
 use Rattle.fleet_base.specs.State.{FleetState}
-use Rattle.fleet_base.specs.Open.{is_open}
+use Rattle.fleet_base.specs.Open.{is_open, KeepsClosed}
 use Rattle.fleet_base.specs.Rules.{IsFleetState}
 use Rattle.fleet_base.specs.Schedule.{IsLeastSchedule, IsCost, end_sum_of}
 use Rattle.fleet_base.proofs.Costs.{cost_of_least}
-use Rattle.plan_graph.specs.Limits.{visit_count, IsWithinLimits}
-use Rattle.cert_tree.specs.Orders.{KeepsClosed}
+use Rattle.plan_graph.specs.Limits.{visit_count, IsGraphWithinLimits}
 use Rattle.cert_tree.proofs.EdgeLaws.{visit}
 use Rattle.cert_tree.proofs.Walks.{sum_more}
 use Rattle.cert_check.specs.Rounds.{rounds}
@@ -51,7 +50,7 @@ module _ (g : Graph) (x : FleetState) (order : ℕ → Option Side) (state : IsF
       omega (arith, h)
 
   -- no tick of a least schedule is far away, and the cost of the order fits
-  pub cost_is_small : IsWithinLimits g → KeepsClosed g x order → (list : List Visit) → IsSorted g order list → (s : Visit → ℕ) → IsLeastSchedule g x order s → end_sum_of g s < 2 ^ 64
+  pub cost_is_small : IsGraphWithinLimits g → KeepsClosed g x order → (list : List Visit) → IsSorted g order list → (s : Visit → ℕ) → IsLeastSchedule g x order s → end_sum_of g s < 2 ^ 64
   cost_is_small limits closed list sorted s least =
       let all : sum_by (λ i. s (visit i (last_in g i))) (range_with_len 0 (length g.lasts)) ≤ length g.lasts * 2065536065536 = sum_below (λ i. s (visit i (last_in g i))) 2065536065536 (length g.lasts) each in
       let same = ap (λ n. sum_by (λ i. s (visit i (last_in g i))) (range_with_len 0 n)) (let z : length g.lasts - 0 ≡ length g.lasts = omega arith in z) in

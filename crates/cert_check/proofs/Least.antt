@@ -14,19 +14,20 @@ use Rattle.std.proofs.lemmas.List.Elements.{Contains-append_left, Contains-appen
 use Rattle.std.proofs.lemmas.List.Sums.{sum_by-cons}
 use Rattle.plan_graph.specs.Limits.{visit_count}
 use Rattle.std.specs.Prelude.{Contains, slice_index_or, sum_by}
-use Rattle.fleet_base.specs.Schedule.{IsSchedule, Obeys, ObeysEdge, IsLeastSchedule}
+use Rattle.fleet_base.specs.Schedule.{IsSchedule, Obeys, ObeysEdge, IsLeastSchedule, own_tick}
 use Rattle.fleet_base.specs.declared.order.Edge.{Edge}
 use Rattle.fleet_base.specs.Paths.{edge_in}
-use Rattle.cert_tree.specs.Orders.{KeepsClosed}
 use Rattle.fleet_base.proofs.Walking.{edge_has, edge_is}
+use Rattle.fleet_base.proofs.Places.{same_visit_is, same_visit_refl, place_in, stands}
+use Rattle.fleet_base.specs.Open.{KeepsClosed}
 use Rattle.cert_tree.proofs.EdgeLaws.{visit}
 use Rattle.std.proofs.lemmas.Option.{slice_get_within}
-use Rattle.cert_tree.proofs.Places.{place_in, stands, earlier, same_visit_is, same_visit_refl}
+use Rattle.cert_tree.proofs.Places.{earlier}
 use Rattle.cert_tree.proofs.Walks.{tail_there}
 
 module _ (g : Graph) (x : FleetState) (order : ℕ → Option Side) where
   abbrev floor : Visit → ℕ
-  floor v = Rattle.cert_check.specs.Rounds.floor x v
+  floor v = own_tick x v
 
   abbrev along_bound : (Visit → ℕ) → Visit → ℕ → ℕ
   along_bound f v k = Rattle.cert_check.specs.Rounds.along_bound x f v k

@@ -17,3 +17,4 @@ pub mod AskLaws
 pub mod PathLaws
 pub mod JudgeLaws
 pub mod ThroughLaws
+pub mod ZeroRows

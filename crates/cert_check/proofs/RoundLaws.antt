@@ -9,28 +9,29 @@ use Rattle.fleet_base.specs.Pairs.{same_visit}
 use Rattle.fleet_base.specs.Order.{Graph, IsVisit, IsSorted, last_in}
 use Rattle.fleet_base.specs.State.{FleetState, arrived_count, released_count, arrival_tick_of, release_tick_of, duration_of}
 use Rattle.fleet_base.specs.Rules.{IsFleetState}
-use Rattle.fleet_base.specs.Schedule.{IsLeastSchedule}
-use Rattle.plan_graph.specs.Limits.{visit_count, IsWithinLimits}
+use Rattle.fleet_base.specs.Schedule.{IsLeastSchedule, own_tick, IsBelowAll}
+use Rattle.plan_graph.specs.Limits.{visit_count, IsGraphWithinLimits}
 use Rattle.plan_graph.proofs.PlanGraphs.{index_within}
 use Rattle.fleet_base.specs.declared.order.Edge.{Edge}
-use Rattle.cert_tree.specs.Orders.{KeepsClosed}
 use Rattle.fleet_base.specs.Paths.{edge_in}
-use Rattle.cert_check.specs.Rounds.{floor, along_bound, edge_bound, pair_bound, raised, rounds, ticks_of, HasTicks, IsLow, IsPast, IsBelow, HasRounds, IsSettled, KeepsRows, Raises, RaisesAll}
+use Rattle.fleet_base.proofs.Places.{same_visit_is, same_visit_refl}
+use Rattle.fleet_base.specs.Open.{KeepsClosed}
+use Rattle.fleet_base.specs.VisitRows.{tick_in, AreRowsFor, KeepsRows}
+use Rattle.cert_check.specs.Rounds.{along_bound, edge_bound, pair_bound, raised, rounds, IsPast, IsBelow, HasRounds, IsSettled, Raises, RaisesAll}
 use Rattle.cert_check.proofs.Least.{raised_le, raised_below, raised_arrived, raised_ahead, nothing_to_raise, settled}
-use Rattle.cert_tree.proofs.Places.{same_visit_is, same_visit_refl}
 
 -- ---- rows of ticks
 
-pub set_same : (rows : List (List ℕ)) (v : Visit) (t : ℕ) → v.robot < length rows → v.index < length (row_of rows v.robot) → ticks_of (set rows v.robot (set (row_of rows v.robot) v.index t)) v ≡ t
+pub set_same : (rows : List (List ℕ)) (v : Visit) (t : ℕ) → v.robot < length rows → v.index < length (row_of rows v.robot) → tick_in (set rows v.robot (set (row_of rows v.robot) v.index t)) v ≡ t
 set_same rows v t a b = ap (λ (r : List ℕ). get_or r v.index 0) (get_or-set_same rows v.robot (set (row_of rows v.robot) v.index t) [] a) ∙ get_or-set_same (row_of rows v.robot) v.index t 0 b
 
-pub set_other : (rows : List (List ℕ)) (v : Visit) (t : ℕ) (u : Visit) → v.robot < length rows → ¬ (u ≡ v) → ticks_of (set rows v.robot (set (row_of rows v.robot) v.index t)) u ≡ ticks_of rows u
+pub set_other : (rows : List (List ℕ)) (v : Visit) (t : ℕ) (u : Visit) → v.robot < length rows → ¬ (u ≡ v) → tick_in (set rows v.robot (set (row_of rows v.robot) v.index t)) u ≡ tick_in rows u
 set_other rows v t u a ne = go (cases_eq u.robot v.robot)
   where
     same_row : u.robot ≡ v.robot → u.index ≢ v.index
     same_row e f = ne (λ j. record { robot = e j; index = f j })
 
-    go : (u.robot ≡ v.robot) ⊎ (u.robot ≡ v.robot → ⊥) → ticks_of (set rows v.robot (set (row_of rows v.robot) v.index t)) u ≡ ticks_of rows u
+    go : (u.robot ≡ v.robot) ⊎ (u.robot ≡ v.robot → ⊥) → tick_in (set rows v.robot (set (row_of rows v.robot) v.index t)) u ≡ tick_in rows u
     go (inr n) = ap (λ (r : List ℕ). get_or r u.index 0) (get_or-set_other rows v.robot u.robot (set (row_of rows v.robot) v.index t) [] n)
     go (inl e) = ap (λ i. get_or (get_or (set rows v.robot (set (row_of rows v.robot) v.index t)) i []) u.index 0) e ∙ ap (λ (r : List ℕ). get_or r u.index 0) (get_or-set_same rows v.robot (set (row_of rows v.robot) v.index t) [] a) ∙ get_or-set_other (row_of rows v.robot) v.index u.index t 0 (same_row e) ∙ ap (λ i. get_or (row_of rows i) u.index 0) (sym e)
 
@@ -48,7 +49,7 @@ length-map_more [] = refl
 length-map_more (n ∷ ns) = ap suc (length-map_more ns)
 
 -- a row for each robot, as long as it has visits
-pub has_ticks_of : (g : Graph) (rows : List (List ℕ)) → map length rows ≡ map (λ last. last + 1) g.lasts → HasTicks g rows
+pub has_ticks_of : (g : Graph) (rows : List (List ℕ)) → map length rows ≡ map (λ last. last + 1) g.lasts → AreRowsFor g rows
 has_ticks_of g rows e =
     let robots : length rows ≡ length g.lasts = sym (length-map_length rows) ∙ ap length e ∙ length-map_more g.lasts in
     record {
@@ -56,7 +57,7 @@ has_ticks_of g rows e =
       visits = λ i h. sym (get_or-map length rows i [] 0 (omega (arith, h, robots))) ∙ ap (λ (ns : List ℕ). get_or ns i 0) e ∙ get_or-map (λ last. last + 1) g.lasts i 0 0 h;
     }
 
-pub has_ticks_kept : (g : Graph) (old new : List (List ℕ)) → HasTicks g old → KeepsRows old new → HasTicks g new
+pub has_ticks_kept : (g : Graph) (old new : List (List ℕ)) → AreRowsFor g old → KeepsRows old new → AreRowsFor g new
 has_ticks_kept g old new has keeps =
     let robots : length new ≡ length g.lasts = sym (length-map_length new) ∙ ap length keeps ∙ length-map_length old ∙ has.robots in
     record {
@@ -71,18 +72,18 @@ module _ (g : Graph) (x : FleetState) (order : ℕ → Option Side) where
   IsDone robot index v = (v.robot < robot) ⊎ ((v.robot ≡ robot) × (v.index < index))
 
   pub record Raising (old new : Visit → ℕ) (robot index : ℕ) (raises : Bool) : Type 0 where
-    pub low : IsLow g x order old → IsLow g x order new
+    pub low : IsBelowAll g x order old → IsBelowAll g x order new
     pub past : IsPast g x old → IsPast g x new
     pub grow : (v : Visit) → old v ≤ new v
     pub round : (n : ℕ) → HasRounds g x order n old → (v : Visit) → IsVisit g v → IsDone robot index v → rounds g x order (suc n) v ≤ new v
     pub bound : (b : ℕ) → 2000000000000 ≤ b → IsBelow b old → IsBelow (b + (robot * 65536 + index) * 1000001) new
     pub same : raises ≡ false → (v : Visit) → new v ≡ old v
     pub done : raises ≡ false → (v : Visit) → IsVisit g v → IsDone robot index v → raised g x order old v ≤ old v
-    pub ends : (list : List Visit) → IsSorted g order list → IsLow g x order old → HasRounds g x order (visit_count g) old → raises ≡ false
+    pub ends : (list : List Visit) → IsSorted g order list → IsBelowAll g x order old → HasRounds g x order (visit_count g) old → raises ≡ false
 
   -- so many rounds are done
   pub record Relaxing (n : ℕ) (f : Visit → ℕ) : Type 0 where
-    pub low : IsLow g x order f
+    pub low : IsBelowAll g x order f
     pub past : IsPast g x f
     pub round : HasRounds g x order n f
     pub bound : IsBelow (2000000000000 + n * (16777216 * 1000001)) f
@@ -91,10 +92,10 @@ module _ (g : Graph) (x : FleetState) (order : ℕ → Option Side) where
 -- ---- bounds
 
 module _ (g : Graph) (x : FleetState) (order : ℕ → Option Side) (state : IsFleetState g x) where
-  floor_below : (v : Visit) → floor x v ≤ 1000001000001
+  floor_below : (v : Visit) → own_tick x v ≤ 1000001000001
   floor_below v = go (cases_lt v.index (released_count x v.robot))
     where
-      go : (v.index < released_count x v.robot) ⊎ (released_count x v.robot ≤ v.index) → floor x v ≤ 1000001000001
+      go : (v.index < released_count x v.robot) ⊎ (released_count x v.robot ≤ v.index) → own_tick x v ≤ 1000001000001
       go (inl r) =
           let e = ap (λ b. cond b (max x.clock (release_tick_of x v + duration_of x v)) (x.clock + duration_of x v)) (lt-ltb v.index (released_count x v.robot) r) in
           omega (arith, e, state.ticks.clock, state.ticks.releases_past v r, state.delays v)
@@ -142,7 +143,7 @@ module _ (g : Graph) (x : FleetState) (order : ℕ → Option Side) (state : IsF
       nothing v (inl h) = omega (arith, h)
       nothing v (inr h) = omega (arith, h.1)
 
-  module _ (limits : IsWithinLimits g) (old new : Visit → ℕ) (robot : ℕ) (raises : Bool) where
+  module _ (limits : IsGraphWithinLimits g) (old new : Visit → ℕ) (robot : ℕ) (raises : Bool) where
     pub raising_row : robot < length g.lasts → Raising g x order old new robot (last_in g robot + 1) raises → Raising g x order old new (robot + 1) 0 raises
     raising_row there r = record {
       low = r.low;
@@ -195,7 +196,7 @@ module _ (g : Graph) (x : FleetState) (order : ℕ → Option Side) (state : IsF
             go (inl e) = omega (arith, here u e)
             go (inr n) = omega (arith, one.there u n)
 
-        low : IsLow g x order old → IsLow g x order new
+        low : IsBelowAll g x order old → IsBelowAll g x order new
         low h t schedule obeys u is = go (is_it u)
           where
             go : (u ≡ v) ⊎ (¬ (u ≡ v)) → new u ≤ t u
@@ -260,7 +261,7 @@ module _ (g : Graph) (x : FleetState) (order : ℕ → Option Side) (state : IsF
             go (inl s) = omega (arith, subst (λ (w : Visit). raised g x order mid w ≤ mid w) (sym s) (one.was_not (both e).0), r.same (both e).1 u, raised_le g x order state keeps old mid u is (λ w iw b. r.grow w))
             go (inr n) = r.done (both e).1 u is (earlier u n d)
 
-        ends : (list : List Visit) → IsSorted g order list → IsLow g x order old → HasRounds g x order (visit_count g) old → after ≡ false
+        ends : (list : List Visit) → IsSorted g order list → IsBelowAll g x order old → HasRounds g x order (visit_count g) old → after ≡ false
         ends list s l h = go raises refl
           where
             go : (a : Bool) → raises ≡ a → after ≡ false
@@ -268,7 +269,7 @@ module _ (g : Graph) (x : FleetState) (order : ℕ → Option Side) (state : IsF
             go true e = absurd (omega (arith, one.was_below e, nothing_to_raise g x order list state keeps s mid (r.low l) (λ w iw. omega (arith, h w iw, r.grow w)) v iv))
 
   -- the whole round
-  pub raised_all : IsWithinLimits g → (old new : Visit → ℕ) (raises : Bool) → Raising g x order old new (length g.lasts) 0 raises → RaisesAll g x order old new raises
+  pub raised_all : IsGraphWithinLimits g → (old new : Visit → ℕ) (raises : Bool) → Raising g x order old new (length g.lasts) 0 raises → RaisesAll g x order old new raises
   raised_all limits old new raises r = record {
     low = r.low;
     past = r.past;

@@ -6,11 +6,10 @@ use Rattle.fleet_base.specs.declared.order.Pair.{Pair}
 use Rattle.fleet_base.specs.declared.order.Side.{Side}
 use Rattle.fleet_base.specs.Order.{Graph, IsVisit, order_of, next_visit, first_visit, second_visit}
 use Rattle.fleet_base.specs.State.{FleetState}
-use Rattle.fleet_base.specs.Open.{is_open}
+use Rattle.fleet_base.specs.Open.{is_open, KeepsClosed}
 use Rattle.fleet_base.specs.Rules.{IsFleetState}
 use Rattle.fleet_base.specs.Schedule.{decision_order}
 use Rattle.cert_tree.specs.Decisions.{Decision, order_on}
-use Rattle.cert_tree.specs.Orders.{KeepsClosed}
 use Rattle.cert_check.specs.Sides.{decided, order_by}
 use Rattle.cert_check.specs.Judging.{Gives}
 use Rattle.fleet_base.proofs.OpenPairs.{open_listed}

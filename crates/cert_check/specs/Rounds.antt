@@ -8,13 +8,9 @@ use Rattle.fleet_base.specs.Pairs.{same_visit}
 use Rattle.plan_graph.specs.Limits.{visit_count}
 use Rattle.fleet_base.specs.Order.{Graph, IsVisit, IsSorted, last_in}
 use Rattle.fleet_base.specs.State.{FleetState, HasArrived, arrived_count, released_count, arrival_tick_of, release_tick_of, duration_of}
-use Rattle.fleet_base.specs.Schedule.{IsSchedule, Obeys}
+use Rattle.fleet_base.specs.Schedule.{IsSchedule, Obeys, own_tick, IsBelowAll}
 use Rattle.fleet_base.specs.declared.order.Edge.{Edge}
 use Rattle.fleet_base.specs.Paths.{edge_in}
-
--- the least tick of a visit that has not arrived, all edges apart
-abbrev pub floor : FleetState → Visit → ℕ
-floor x v = if nat_lt v.index (released_count x v.robot) then max x.clock (release_tick_of x v + duration_of x v) else x.clock + duration_of x v
 
 -- what the edge along the robot asks for
 abbrev pub along_bound : FleetState → (Visit → ℕ) → Visit → ℕ → ℕ
@@ -33,7 +29,7 @@ pair_bound g x order f v (suc n) = max (edge_bound x f v (edge_in g order n)) (p
 
 -- all of it together
 abbrev pub asked : Graph → FleetState → (ℕ → Option Side) → (Visit → ℕ) → Visit → ℕ
-asked g x order f v = max (floor x v) (max (along_bound x f v v.index) (pair_bound g x order f v (length g.pairs)))
+asked g x order f v = max (own_tick x v) (max (along_bound x f v v.index) (pair_bound g x order f v (length g.pairs)))
 
 -- the tick of a visit after a round
 abbrev pub raised : Graph → FleetState → (ℕ → Option Side) → (Visit → ℕ) → Visit → ℕ
@@ -43,19 +39,6 @@ raised g x order f v = if nat_lt v.index (arrived_count x v.robot) then arrival_
 abbrev pub rounds : Graph → FleetState → (ℕ → Option Side) → ℕ → Visit → ℕ
 rounds g x order zero v = 0
 rounds g x order (suc n) v = raised g x order (rounds g x order n) v
-
--- the ticks that are kept row by row
-abbrev pub ticks_of : List (List ℕ) → Visit → ℕ
-ticks_of rows v = slice_index (row_of rows v.robot) v.index
-
--- there is a tick for each visit
-pub record HasTicks (g : Graph) (rows : List (List ℕ)) : Type 0 where
-  pub robots : length rows ≡ length g.lasts
-  pub visits : (i : ℕ) → i < length g.lasts → length (row_of rows i) ≡ last_in g i + 1
-
--- no schedule that obeys the order has an earlier tick
-abbrev pub IsLow : Graph → FleetState → (ℕ → Option Side) → (Visit → ℕ) → Type 0
-IsLow g x order f = (t : Visit → ℕ) → IsSchedule g x t → Obeys g x order t → (v : Visit) → IsVisit g v → f v ≤ t v
 
 -- what has arrived has no tick past its arrival
 abbrev pub IsPast : Graph → FleetState → (Visit → ℕ) → Type 0
@@ -73,10 +56,6 @@ HasRounds g x order n f = (v : Visit) → IsVisit g v → rounds g x order n v �
 abbrev pub IsSettled : Graph → FleetState → (ℕ → Option Side) → (Visit → ℕ) → Type 0
 IsSettled g x order f = (v : Visit) → IsVisit g v → raised g x order f v ≤ f v
 
--- the rows are as long as they were
-abbrev pub KeepsRows : List (List ℕ) → List (List ℕ) → Type 0
-KeepsRows old new = map length new ≡ map length old
-
 -- the tick of one visit is raised to what is asked of it, if it is below, and the others stay
 pub record Raises (g : Graph) (x : FleetState) (order : ℕ → Option Side) (old new : Visit → ℕ) (v : Visit) (raises : Bool) : Type 0 where
   pub here : new v ≡ max (old v) (raised g x order old v)
@@ -87,9 +66,9 @@ pub record Raises (g : Graph) (x : FleetState) (order : ℕ → Option Side) (ol
 -- A round keeps what is low low and what is past past, and makes ticks of n rounds ones of n + 1. It raises nothing exactly
 -- where nothing is to be raised, and then leaves the ticks. Where the order has no cycle, it raises nothing after as many rounds as there are visits.
 pub record RaisesAll (g : Graph) (x : FleetState) (order : ℕ → Option Side) (old new : Visit → ℕ) (raises : Bool) : Type 0 where
-  pub low : IsLow g x order old → IsLow g x order new
+  pub low : IsBelowAll g x order old → IsBelowAll g x order new
   pub past : IsPast g x old → IsPast g x new
   pub round : (n : ℕ) → HasRounds g x order n old → HasRounds g x order (suc n) new
   pub bound : (b : ℕ) → 2000000000000 ≤ b → IsBelow b old → IsBelow (b + 16777216 * 1000001) new
   pub settled : raises ≡ false → IsSettled g x order new
-  pub ends : (list : List Visit) → IsSorted g order list → IsLow g x order old → HasRounds g x order (visit_count g) old → raises ≡ false
+  pub ends : (list : List Visit) → IsSorted g order list → IsBelowAll g x order old → HasRounds g x order (visit_count g) old → raises ≡ false

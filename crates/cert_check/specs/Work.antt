@@ -2,8 +2,8 @@
 use Rattle.std.specs.Prelude.{◌≡◌, ◌+◌, ◌≤◌, length, map, vec_len}
 use Rattle.std.specs.Vec.{vec_capacity}
 use Rattle.fleet_base.specs.Order.{Graph}
+use Rattle.fleet_base.specs.VisitRows.{KeepsRows}
 use Rattle.edge_groups.specs.Mates.{AreAllMates}
-use Rattle.cert_check.specs.Rounds.{KeepsRows}
 use Rattle.cert_check.specs.declared.workspace.Workspace.{Workspace}
 
 -- it was made for the graph

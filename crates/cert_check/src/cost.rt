@@ -2,8 +2,8 @@ ghost use Rattle.std.specs.Prelude.{◌≡◌};
 ghost use Rattle.fleet_base.specs.Order.{IsSoundOrder};
 ghost use Rattle.fleet_base.specs.Rules.{IsFleetState};
 ghost use Rattle.fleet_base.specs.Schedule.{IsCost};
+ghost use Rattle.fleet_base.specs.Open.{KeepsClosed};
 ghost use Rattle.plan_graph.specs.Views.{order_in};
-ghost use Rattle.cert_tree.specs.Orders.{KeepsClosed};
 ghost use Rattle.cert_check.specs.Rooms.{IsRoomFor};
 
 use crate::Scratch;

@@ -1,11 +1,11 @@
 ghost use Rattle.std.specs.Prelude.{◌≡◌, ◌<◌, ◌+◌, ◌^◌, ◌↔◌, None, length, true, IsTrue, IfSome};
-ghost use Rattle.fleet_base.specs.Order.{IsVisit, next_visit, first_visit, second_visit};
+ghost use Rattle.fleet_base.specs.Order.{IsVisit};
 ghost use Rattle.fleet_base.specs.Open.{is_open};
 ghost use Rattle.fleet_base.specs.Rules.{IsFleetState};
 ghost use Rattle.fleet_base.specs.Paths.{edge_in, leads_on};
 ghost use Rattle.cert_check.specs.Sides.{decided, order_by, HasSides};
 
-use fleet_base::{Edge, Fleet, Pair, PairId, Side, Visit};
+use fleet_base::{Edge, Fleet, PairId, Side, Visit};
 use plan_graph::{PlanGraph, is_open};
 
 /// Whether a pair is there, open and undecided.
@@ -49,39 +49,8 @@ pub(crate) fn find_edge(
     }
     let _within = graph.robots();
     match side(graph, fleet, sides, q) {
-        Some(side) => Some(edge_of(graph, graph.pair(q), side)),
+        Some(side) => Some(graph.pair(q).edge(side)),
         None => None,
-    }
-}
-
-/// The edge of a pair with this side.
-pub(crate) fn edge_of(graph: &PlanGraph, pair: Pair, side: Side) -> Edge
-    requires lower { IsVisit graph.now pair.lower }
-    requires higher { IsVisit graph.now pair.higher }
-    ensures tail { result.tail ≡ next_visit (first_visit pair side) }
-    ensures head { result.head ≡ second_visit pair side }
-{
-    let _within = graph.robots();
-    match side {
-        Side::Lower => Edge {
-            tail: following(pair.lower),
-            head: pair.higher,
-        },
-        Side::Higher => Edge {
-            tail: following(pair.higher),
-            head: pair.lower,
-        },
-    }
-}
-
-/// The following visit of the robot.
-pub(crate) fn following(v: Visit) -> Visit
-    requires { v.index + 1 < 2 ^ 32 }
-    ensures { result ≡ next_visit v }
-{
-    Visit {
-        robot: v.robot,
-        index: v.index + 1,
     }
 }
 

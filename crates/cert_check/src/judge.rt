@@ -4,6 +4,7 @@ ghost use Rattle.fleet_base.specs.Order.{IsVisit};
 ghost use Rattle.fleet_base.specs.Open.{is_open};
 ghost use Rattle.fleet_base.specs.Rules.{IsFleetState};
 ghost use Rattle.fleet_base.specs.Schedule.{ObeysEdge};
+ghost use Rattle.fleet_base.specs.VisitRows.{tick_in, AreRowsFor, KeepsRows};
 ghost use Rattle.cert_tree.specs.declared.node.Node.TheVariants.{Branch, Force, Cyclic, Bound, OpenLeaf};
 ghost use Rattle.cert_tree.specs.CertText.{IsWritten};
 ghost use Rattle.cert_check.specs.declared.judge.Kind.TheVariants as kind;
@@ -14,13 +15,13 @@ ghost use Rattle.cert_check.specs.Judging.{IsJudged, Judges, MeetsAs, FailsAs, G
 ghost use Rattle.cert_check.specs.Sums.{AreSums};
 ghost use Rattle.cert_check.specs.Ways.{HasWay, way_of};
 ghost use Rattle.cert_check.specs.Work.{IsWorkFor, KeepsWork};
-ghost use Rattle.cert_check.specs.Rounds.{ticks_of, HasTicks, IsBelow, KeepsRows};
+ghost use Rattle.cert_check.specs.Rounds.{IsBelow};
 
 use crate::NoWhy;
 use crate::cycle::is_cycle;
-use crate::edges::{edge_of, is_free};
+use crate::edges::is_free;
 use crate::groups::judge_group;
-use crate::path::{duration, total_length};
+use crate::path::total_length;
 use crate::rounds::{Ticks, end_sum, relax, tick_of};
 use crate::sums::Sums;
 use crate::workspace::Workspace;
@@ -85,7 +86,7 @@ fn judge_alone(
 ) -> Option<NoWhy>
     requires state { IsFleetState graph.now fleet.now }
     requires sides { HasSides graph.now sides.old }
-    requires ticks { HasTicks graph.now ticks.old }
+    requires ticks { AreRowsFor graph.now ticks.old }
     requires sums { AreSums graph.now fleet.now sums.now }
     requires written { IsWritten node.now }
     ensures word { IsJudged graph.now fleet.now cost kind sides.old node.now result }
@@ -119,7 +120,7 @@ fn judge_branch(
 ) -> Option<NoWhy>
     requires state { IsFleetState graph.now fleet.now }
     requires sides { HasSides graph.now sides.now }
-    requires ticks { HasTicks graph.now ticks.old }
+    requires ticks { AreRowsFor graph.now ticks.old }
     ensures word { IsJudged graph.now fleet.now cost kind sides.now (Branch pair) result }
     ensures rows { KeepsRows ticks.old ticks.new }
 {
@@ -209,7 +210,7 @@ fn judge_leaf(
 ) -> Option<NoWhy>
     requires state { IsFleetState graph.now fleet.now }
     requires sides { HasSides graph.now sides.now }
-    requires ticks { HasTicks graph.now ticks.old }
+    requires ticks { AreRowsFor graph.now ticks.old }
     ensures word { IsJudged graph.now fleet.now cost kind sides.now (OpenLeaf least) result }
     ensures rows { KeepsRows ticks.old ticks.new }
 {
@@ -231,7 +232,7 @@ fn is_needed(
 ) -> bool
     requires state { IsFleetState graph.now fleet.now }
     requires sides { HasSides graph.now sides.now }
-    requires ticks { HasTicks graph.now ticks.old }
+    requires ticks { AreRowsFor graph.now ticks.old }
     requires open { is_open graph.now fleet.now q.0 ≡ true }
     requires pair { q.0 < length graph.now.pairs }
     ensures needed { (way : List Decision) → Gives way sides.now → IsTrue result ↔ IsNeeded graph.now fleet.now cost least way q.0 }
@@ -246,11 +247,12 @@ fn is_needed(
     if cost <= relaxed || least < relaxed {
         return false;
     }
+    let _within = graph.robots();
     let pair = graph.pair(q);
-    if obeys(graph, fleet, ticks, edge_of(graph, pair, Side::Lower)) {
+    if obeys(graph, fleet, ticks, pair.edge(Side::Lower)) {
         return false;
     }
-    !obeys(graph, fleet, ticks, edge_of(graph, pair, Side::Higher))
+    !obeys(graph, fleet, ticks, pair.edge(Side::Higher))
 }
 
 /// Whether a leaf may be left open with this number.
@@ -264,7 +266,7 @@ fn is_left_open(
 ) -> bool
     requires state { IsFleetState graph.now fleet.now }
     requires sides { HasSides graph.now sides.now }
-    requires ticks { HasTicks graph.now ticks.old }
+    requires ticks { AreRowsFor graph.now ticks.old }
     ensures left { (way : List Decision) → Gives way sides.now → IsTrue result ↔ IsLeftOpen graph.now fleet.now cost way least }
     ensures rows { KeepsRows ticks.old ticks.new }
 {
@@ -298,13 +300,13 @@ fn has_free(graph: &PlanGraph, fleet: &Fleet, sides: &[Option<Side>]) -> bool
 /// Whether ticks obey an edge.
 fn obeys(graph: &PlanGraph, fleet: &Fleet, ticks: &Ticks, edge: Edge) -> bool
     requires state { IsFleetState graph.now fleet.now }
-    requires ticks { HasTicks graph.now ticks.now }
-    requires bound { IsBelow (2 ^ 62) (ticks_of ticks.now) }
+    requires ticks { AreRowsFor graph.now ticks.now }
+    requires bound { IsBelow (2 ^ 62) (tick_in ticks.now) }
     requires tail { IsVisit graph.now edge.tail }
     requires head { IsVisit graph.now edge.head }
-    ensures { IsTrue result ↔ ObeysEdge fleet.now (ticks_of ticks.now) edge.tail edge.head }
+    ensures { IsTrue result ↔ ObeysEdge fleet.now (tick_in ticks.now) edge.tail edge.head }
 {
     let Edge { tail, head } = edge;
     fleet.arrival_tick(head).is_some()
-        || tick_of(graph, ticks, tail) + duration(fleet, head) <= tick_of(graph, ticks, head)
+        || tick_of(graph, ticks, tail) + fleet.duration(head) <= tick_of(graph, ticks, head)
 }

@@ -9,21 +9,11 @@ ghost use Rattle.cert_check.specs.Sides.{order_by, HasSides};
 ghost use Rattle.cert_check.specs.Judging.{TakesPath};
 ghost use Rattle.cert_check.specs.Sums.{AreSums};
 
-use crate::edges::{find_edge, following, leads_on};
+use crate::edges::{find_edge, leads_on};
 use crate::sums::{Sums, moves};
 use cert_tree::CertPath;
 use fleet_base::{Fleet, PairId, Side, Visit};
 use plan_graph::PlanGraph;
-
-/// How long the move to a visit lasts.
-pub(crate) fn duration(fleet: &Fleet, v: Visit) -> u64
-    requires robot { v.robot < length fleet.now.lasts }
-    requires index { v.index ≤ slice_index fleet.now.lasts v.robot }
-    requires delay { duration_of fleet.now v ≤ 1000001 }
-    ensures { result ≡ duration_of fleet.now v }
-{
-    1 + fleet.delay(v)
-}
 
 /// Whether a robot has arrived at its last visit.
 fn has_finished(graph: &PlanGraph, fleet: &Fleet, robot: u32) -> bool
@@ -45,7 +35,7 @@ fn first_to_come(graph: &PlanGraph, fleet: &Fleet, robot: u32) -> Visit
     let _within = graph.robots();
     let _last = graph.last(robot);
     let index = fleet.arrived(robot);
-    following(Visit { robot, index })
+    Visit { robot, index }.next()
 }
 
 /// When the move to the first visit of a robot that has not arrived can end, other robots apart.
@@ -60,7 +50,7 @@ fn earliest_end(graph: &PlanGraph, fleet: &Fleet, robot: u32) -> u64
         robot,
         index: fleet.arrived(robot),
     };
-    let duration = duration(fleet, next);
+    let duration = fleet.duration(next);
     match (fleet.release_tick(next), fleet.arrival_tick(last)) {
         (Some(released), Some(arrived)) => {
             let earliest = (released + duration).max(arrived + duration);
@@ -124,7 +114,7 @@ fn walk(
             return None;
         }
         let along = moves(sums, at, next.tail.index);
-        let across = duration(fleet, next.head);
+        let across = fleet.duration(next.head);
         tick += u128::from(along) + u128::from(across);
         at = next.head;
     }

@@ -4,13 +4,13 @@ ghost use Rattle.fleet_base.specs.Lists.{row_of};
 ghost use Rattle.fleet_base.specs.Order.{IsVisit, IsSorted, IsCyclic, last_in};
 ghost use Rattle.fleet_base.specs.State.{duration_of, arrived_count};
 ghost use Rattle.fleet_base.specs.Rules.{IsFleetState};
-ghost use Rattle.fleet_base.specs.Schedule.{IsLeastSchedule, end_sum_of};
+ghost use Rattle.fleet_base.specs.Schedule.{IsLeastSchedule, end_sum_of, own_tick, IsBelowAll};
 ghost use Rattle.fleet_base.specs.Paths.{edge_in};
+ghost use Rattle.fleet_base.specs.VisitRows.{tick_in, AreRowsFor, KeepsRows};
 ghost use Rattle.cert_check.specs.Sides.{order_by, HasSides};
-ghost use Rattle.cert_check.specs.Rounds.{floor, edge_bound, raised, ticks_of, HasTicks, IsLow, IsPast, IsBelow, HasRounds, IsSettled, KeepsRows, Raises, RaisesAll};
+ghost use Rattle.cert_check.specs.Rounds.{edge_bound, raised, IsPast, IsBelow, HasRounds, IsSettled, Raises, RaisesAll};
 
 use crate::edges::find_edge;
-use crate::path::duration;
 use fleet_base::{Fleet, Items, PairId, Side, Visit};
 use plan_graph::PlanGraph;
 
@@ -27,10 +27,10 @@ pub(crate) fn relax(
 ) -> bool
     requires state { IsFleetState graph.now fleet.now }
     requires sides { HasSides graph.now sides.now }
-    requires ticks { HasTicks graph.now ticks.old }
-    ensures least { result ≡ true → IsLeastSchedule graph.now fleet.now (order_by graph.now fleet.now sides.now) (ticks_of ticks.new) }
+    requires ticks { AreRowsFor graph.now ticks.old }
+    ensures least { result ≡ true → IsLeastSchedule graph.now fleet.now (order_by graph.now fleet.now sides.now) (tick_in ticks.new) }
     ensures cyclic { result ≡ false → IsCyclic graph.now (order_by graph.now fleet.now sides.now) }
-    ensures bound { IsBelow (2 ^ 62) (ticks_of ticks.new) }
+    ensures bound { IsBelow (2 ^ 62) (tick_in ticks.new) }
     ensures rows { KeepsRows ticks.old ticks.new }
 {
     let _within = graph.robots();
@@ -45,7 +45,7 @@ pub(crate) fn relax(
 
 /// Sets all ticks to 0.
 fn forget(ticks: &mut Ticks)
-    ensures zero { (v : Visit) → ticks_of ticks.new v ≡ 0 }
+    ensures zero { (v : Visit) → tick_in ticks.new v ≡ 0 }
     ensures rows { KeepsRows ticks.old ticks.new }
 {
     for robot in 0..ticks.as_slice().len() {
@@ -59,9 +59,9 @@ fn forget(ticks: &mut Ticks)
 fn raise_all(graph: &PlanGraph, fleet: &Fleet, sides: &[Option<Side>], ticks: &mut Ticks) -> bool
     requires state { IsFleetState graph.now fleet.now }
     requires sides { HasSides graph.now sides.now }
-    requires ticks { HasTicks graph.now ticks.old }
-    requires bound { IsBelow (2 ^ 61) (ticks_of ticks.old) }
-    ensures raises { RaisesAll graph.now fleet.now (order_by graph.now fleet.now sides.now) (ticks_of ticks.old) (ticks_of ticks.new) result }
+    requires ticks { AreRowsFor graph.now ticks.old }
+    requires bound { IsBelow (2 ^ 61) (tick_in ticks.old) }
+    ensures raises { RaisesAll graph.now fleet.now (order_by graph.now fleet.now sides.now) (tick_in ticks.old) (tick_in ticks.new) result }
     ensures rows { KeepsRows ticks.old ticks.new }
 {
     let _within = graph.robots();
@@ -86,10 +86,10 @@ fn raise(
 ) -> bool
     requires state { IsFleetState graph.now fleet.now }
     requires sides { HasSides graph.now sides.now }
-    requires ticks { HasTicks graph.now ticks.old }
+    requires ticks { AreRowsFor graph.now ticks.old }
     requires there { IsVisit graph.now v }
-    requires bound { IsBelow (2 ^ 62) (ticks_of ticks.old) }
-    ensures raises { Raises graph.now fleet.now (order_by graph.now fleet.now sides.now) (ticks_of ticks.old) (ticks_of ticks.new) v result }
+    requires bound { IsBelow (2 ^ 62) (tick_in ticks.old) }
+    ensures raises { Raises graph.now fleet.now (order_by graph.now fleet.now sides.now) (tick_in ticks.old) (tick_in ticks.new) v result }
     ensures rows { KeepsRows ticks.old ticks.new }
 {
     let tick = asked_of(graph, fleet, sides, ticks, v);
@@ -112,39 +112,23 @@ fn asked_of(
 ) -> u64
     requires state { IsFleetState graph.now fleet.now }
     requires sides { HasSides graph.now sides.now }
-    requires ticks { HasTicks graph.now ticks.now }
+    requires ticks { AreRowsFor graph.now ticks.now }
     requires there { IsVisit graph.now v }
-    requires bound { IsBelow (2 ^ 62) (ticks_of ticks.now) }
-    ensures { result ≡ raised graph.now fleet.now (order_by graph.now fleet.now sides.now) (ticks_of ticks.now) v }
+    requires bound { IsBelow (2 ^ 62) (tick_in ticks.now) }
+    ensures { result ≡ raised graph.now fleet.now (order_by graph.now fleet.now sides.now) (tick_in ticks.now) v }
 {
     if let Some(tick) = fleet.arrival_tick(v) {
         return tick;
     }
-    let mut tick = earliest_tick(fleet, v);
+    let mut tick = fleet.own_tick(v);
     if v.index > 0 {
-        let duration = duration(fleet, v);
+        let duration = fleet.duration(v);
         tick = tick.max(ticks.row(v.robot as usize)[v.index as usize - 1] + duration);
     }
     for q in graph.pairs_of(v) {
         tick = tick.max(asked_by(graph, fleet, sides, ticks, v, *q));
     }
     tick
-}
-
-/// The earliest end of the move to a visit, all edges apart.
-fn earliest_tick(fleet: &Fleet, v: Visit) -> u64
-    requires robot { v.robot < length fleet.now.lasts }
-    requires index { v.index ≤ slice_index fleet.now.lasts v.robot }
-    requires delay { duration_of fleet.now v ≤ 1000001 }
-    requires clock { fleet.now.clock ≤ 10 ^ 12 }
-    requires release { floor fleet.now v ≤ 2 ^ 62 }
-    ensures { result ≡ floor fleet.now v }
-{
-    let duration = duration(fleet, v);
-    match fleet.release_tick(v) {
-        Some(released) => fleet.now().max(released + duration),
-        None => fleet.now() + duration,
-    }
 }
 
 /// What the edge of a pair asks of a visit.
@@ -158,31 +142,31 @@ fn asked_by(
 ) -> u64
     requires state { IsFleetState graph.now fleet.now }
     requires sides { HasSides graph.now sides.now }
-    requires ticks { HasTicks graph.now ticks.now }
+    requires ticks { AreRowsFor graph.now ticks.now }
     requires there { IsVisit graph.now v }
-    requires bound { IsBelow (2 ^ 62) (ticks_of ticks.now) }
-    ensures { result ≡ edge_bound fleet.now (ticks_of ticks.now) v (edge_in graph.now (order_by graph.now fleet.now sides.now) q.0) }
+    requires bound { IsBelow (2 ^ 62) (tick_in ticks.now) }
+    ensures { result ≡ edge_bound fleet.now (tick_in ticks.now) v (edge_in graph.now (order_by graph.now fleet.now sides.now) q.0) }
 {
     match find_edge(graph, fleet, sides, q) {
-        Some(edge) if edge.head == v => tick_of(graph, ticks, edge.tail) + duration(fleet, v),
+        Some(edge) if edge.head == v => tick_of(graph, ticks, edge.tail) + fleet.duration(v),
         _ => 0,
     }
 }
 
 /// The tick of a visit.
 pub(crate) fn tick_of(graph: &PlanGraph, ticks: &Ticks, v: Visit) -> u64
-    requires ticks { HasTicks graph.now ticks.now }
+    requires ticks { AreRowsFor graph.now ticks.now }
     requires there { IsVisit graph.now v }
-    ensures { result ≡ ticks_of ticks.now v }
+    ensures { result ≡ tick_in ticks.now v }
 {
     ticks.row(v.robot as usize)[v.index as usize]
 }
 
 /// The sum of the ticks of the robots' last visits.
 pub(crate) fn end_sum(graph: &PlanGraph, ticks: &Ticks) -> u128
-    requires ticks { HasTicks graph.now ticks.now }
-    requires bound { IsBelow (2 ^ 62) (ticks_of ticks.now) }
-    ensures { result ≡ end_sum_of graph.now (ticks_of ticks.now) }
+    requires ticks { AreRowsFor graph.now ticks.now }
+    requires bound { IsBelow (2 ^ 62) (tick_in ticks.now) }
+    ensures { result ≡ end_sum_of graph.now (tick_in ticks.now) }
 {
     let _within = graph.robots();
     let mut sum = 0_u128;

@@ -3,11 +3,9 @@ ghost use Rattle.fleet_base.specs.declared.geometry.Visit.{Visit};
 ghost use Rattle.fleet_base.specs.Lists.{row_of};
 ghost use Rattle.fleet_base.specs.Order.{last_in};
 ghost use Rattle.fleet_base.specs.Rules.{IsFleetState};
-ghost use Rattle.cert_check.specs.Rounds.{ticks_of, HasTicks, KeepsRows};
+ghost use Rattle.fleet_base.specs.VisitRows.{tick_in, AreRowsFor, KeepsRows};
 ghost use Rattle.cert_check.specs.Sums.{AreSums, HasRowSums};
 
-use crate::edges::following;
-use crate::path::duration;
 use fleet_base::{Fleet, Items, Visit};
 use plan_graph::PlanGraph;
 
@@ -17,7 +15,7 @@ pub(crate) type Sums = Items<Items<u64>>;
 /// Sums up the durations along each robot.
 pub(crate) fn sum_up(graph: &PlanGraph, fleet: &Fleet, sums: &mut Sums)
     requires state { IsFleetState graph.now fleet.now }
-    requires rows { HasTicks graph.now sums.old }
+    requires rows { AreRowsFor graph.now sums.old }
     ensures sums { AreSums graph.now fleet.now sums.new }
     ensures rows { KeepsRows sums.old sums.new }
 {
@@ -29,18 +27,18 @@ pub(crate) fn sum_up(graph: &PlanGraph, fleet: &Fleet, sums: &mut Sums)
 /// Sums up the durations along one robot.
 fn sum_row(graph: &PlanGraph, fleet: &Fleet, robot: u32, sums: &mut Sums)
     requires state { IsFleetState graph.now fleet.now }
-    requires rows { HasTicks graph.now sums.old }
+    requires rows { AreRowsFor graph.now sums.old }
     requires robot { robot < length graph.now.lasts }
     ensures row { HasRowSums fleet.now sums.new robot (last_in graph.now robot) }
-    ensures others { (v : Visit) → v.robot ≢ robot → ticks_of sums.new v ≡ ticks_of sums.old v }
+    ensures others { (v : Visit) → v.robot ≢ robot → tick_in sums.new v ≡ tick_in sums.old v }
     ensures rows { KeepsRows sums.old sums.new }
 {
     let _within = graph.robots();
     let mut sum = 0;
     sums.set_in(robot as usize, 0, sum);
     for index in 0..graph.last(robot) {
-        let next = following(Visit { robot, index });
-        sum += duration(fleet, next);
+        let next = Visit { robot, index }.next();
+        sum += fleet.duration(next);
         sums.set_in(robot as usize, next.index as usize, sum);
     }
 }
@@ -49,8 +47,8 @@ fn sum_row(graph: &PlanGraph, fleet: &Fleet, robot: u32, sums: &mut Sums)
 pub(crate) fn moves(sums: &Sums, from: Visit, to: u32) -> u64
     requires onward { from.index ≤ to }
     requires within { to < length (row_of sums.now from.robot) }
-    requires rising { ticks_of sums.now from ≤ ticks_of sums.now (record { robot = from.robot; index = to }) }
-    ensures { result + ticks_of sums.now from ≡ ticks_of sums.now (record { robot = from.robot; index = to }) }
+    requires rising { tick_in sums.now from ≤ tick_in sums.now (record { robot = from.robot; index = to }) }
+    ensures { result + tick_in sums.now from ≡ tick_in sums.now (record { robot = from.robot; index = to }) }
 {
     let row = sums.row(from.robot as usize);
     row[to as usize] - row[from.index as usize]

@@ -65,8 +65,8 @@ impl Way {
         ensures room { IfOk result (λ way. vec_len way.sides ≤ vec_capacity way.steps) }
     {
         Ok(Way {
-            sides: Vec::from_elem(alloc, None, pairs).map_err(|_| Memory)?,
-            steps: Vec::with_capacity(alloc, pairs).map_err(|_| Memory)?,
+            sides: Vec::from_elem(alloc, None, pairs)?,
+            steps: Vec::with_capacity(alloc, pairs)?,
         })
     }
 

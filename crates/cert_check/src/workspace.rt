@@ -6,7 +6,7 @@ use crate::rounds::Ticks;
 use crate::sums::Sums;
 use crate::way::Way;
 use edge_groups::{GroupTable, groups};
-use fleet_base::{Items, Memory};
+use fleet_base::Memory;
 use plan_graph::PlanGraph;
 use std::alloc::Global;
 
@@ -28,25 +28,10 @@ impl Workspace {
         let pairs = graph.pair_count() as usize;
         Ok(Workspace {
             way: Way::new(alloc, pairs)?,
-            ticks: zeros(alloc, graph)?,
-            sums: zeros(alloc, graph)?,
+            ticks: graph.zeros(alloc)?,
+            sums: graph.zeros(alloc)?,
             groups: groups(alloc, graph)?,
-            taken: Vec::from_elem(alloc, false, pairs).map_err(|_| Memory)?,
+            taken: Vec::from_elem(alloc, false, pairs)?,
         })
     }
-}
-
-/// A 0 for each visit, robot by robot.
-fn zeros(alloc: Global, graph: &PlanGraph) -> Result<Items<Items<u64>>, Memory>
-    ensures { IfOk result (λ rows. map length rows ≡ map (λ last. last + 1) graph.now.lasts) }
-{
-    let mut rows = Items::new(alloc);
-    for robot in 0..graph.robots() {
-        let visits = graph.last(robot) as usize + 1;
-        match vec![in alloc; 0; visits] {
-            Ok(row) => rows.push(Items::from_vec(row))?,
-            Err(_) => return Err(Memory),
-        }
-    }
-    Ok(rows)
 }

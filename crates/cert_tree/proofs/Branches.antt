@@ -14,6 +14,7 @@ use Rattle.cert_tree.specs.declared.node.Node.{Node}
 use Rattle.cert_tree.specs.declared.node.Node.TheVariants.{Branch, OpenLeaf}
 use Rattle.cert_tree.specs.Decisions.{Decision, side_on}
 use Rattle.fleet_base.specs.Groups.{AreMates, AreOneApart, AreGrouped, IsInOpenGroup, AreOpenGroups}
+use Rattle.fleet_base.proofs.Mates.{mates_turned}
 use Rattle.cert_tree.specs.Trees.{Tree, EachNode, branch_to, force_to, branch_count, left_costs, IsSpentTree}
 use Rattle.cert_tree.specs.GroupRules.{branch_pairs, KeepsGroups, IsGroupedTree}
 use Rattle.cert_tree.specs.Trees.Tree.{Fork, Forced, Refuted, Bounded, Left}
@@ -54,29 +55,13 @@ others_stay n (x ∷ xs) m h ne = go (eqb x n) refl (in_cons x xs m h) (λ r. ot
 
 -- ---- chains of mates go both ways
 
-mates_back : (g : Graph) (q r : ℕ) → AreMates g q r → AreMates g r q
-mates_back g q r m = record {
-  one = m.two;
-  two = m.one;
-  one_listed = m.two_listed;
-  two_listed = m.one_listed;
-  lower_robot = sym m.lower_robot;
-  higher_robot = sym m.higher_robot;
-  lower_visits = swap m.lower_visits;
-  higher_visits = swap m.higher_visits;
-}
-  where
-    swap : {a b : ℕ} → AreOneApart a b → AreOneApart b a
-    swap (inl e) = inr e
-    swap (inr e) = inl e
-
 longer : (g : Graph) (xs ys : List ℕ) (q r s : ℕ) → Chain (AreMates g) q xs r → Chain (AreMates g) r ys s → Chain (AreMates g) q (xs ++ r ∷ ys) s
 longer g [] ys q r s a b = (a, b)
 longer g (x ∷ xs) ys q r s a b = (a.0, longer g xs ys x r s a.1 b)
 
 back : (g : Graph) (xs : List ℕ) (q r : ℕ) → Chain (AreMates g) q xs r → (ys : List ℕ) × Chain (AreMates g) r ys q
-back g [] q r c = ([], mates_back g q r c)
-back g (x ∷ xs) q r c = let b = back g xs x r c.1 in (b.0 ++ x ∷ [], longer g b.0 [] r x q b.1 (mates_back g q x c.0))
+back g [] q r c = ([], mates_turned g q r c)
+back g (x ∷ xs) q r c = let b = back g xs x r c.1 in (b.0 ++ x ∷ [], longer g b.0 [] r x q b.1 (mates_turned g q x c.0))
 
 pub grouped_back : (g : Graph) (q r : ℕ) → AreGrouped g q r → AreGrouped g r q
 grouped_back g q r (inl e) = inl (sym e)

@@ -6,16 +6,17 @@ use Rattle.fleet_base.specs.declared.order.PairId.{PairId}
 use Rattle.fleet_base.specs.declared.order.Side.{Side}
 use Rattle.fleet_base.specs.Order.{Graph, IsVisit, HasEdge, IsCycle, IsSorted, Before, order_of, next_visit}
 use Rattle.fleet_base.specs.State.{FleetState, HasArrived, IsReleased, arrived_count}
-use Rattle.fleet_base.specs.Open.{is_open}
+use Rattle.fleet_base.specs.Open.{is_open, KeepsClosed}
 use Rattle.fleet_base.specs.Rules.{IsFleetState}
 use Rattle.fleet_base.specs.Schedule.{ObeysEdge}
 use Rattle.fleet_base.proofs.Sorting.{sorted}
 use Rattle.fleet_base.proofs.AllVisits.{all_visits, sorted_by_rank}
-use Rattle.cert_tree.specs.Orders.{KeepsClosed, ObeysPairs}
+use Rattle.cert_tree.specs.Orders.{ObeysPairs}
 use Rattle.fleet_base.proofs.Edges.{head_there}
 use Rattle.fleet_base.proofs.OpenPairs.{open_unreleased}
+use Rattle.fleet_base.proofs.Places.{place_in, stands}
 use Rattle.cert_tree.proofs.EdgeLaws.{visit_before, no_cycle}
-use Rattle.cert_tree.proofs.Places.{place_in, stands, earlier}
+use Rattle.cert_tree.proofs.Places.{earlier}
 
 module _ (g : Graph) (x : FleetState) (state : IsFleetState g x) (order : ℕ → Option Side) (keeps : KeepsClosed g x order) where
   -- the pair of an edge whose head has arrived is closed, and its tail has arrived

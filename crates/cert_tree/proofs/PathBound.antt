@@ -19,8 +19,9 @@ use Rattle.cert_tree.specs.Paths.{path_for, length_for, ArePaths, total_length}
 use Rattle.fleet_base.proofs.Walking.{CanGo, can_go, edge_has}
 use Rattle.fleet_base.proofs.Edges.{head_there}
 use Rattle.fleet_base.proofs.Costs.{range_sum}
+use Rattle.fleet_base.specs.Open.{KeepsClosed}
 use Rattle.cert_tree.proofs.EdgeLaws.{visit, visit_before}
-use Rattle.cert_tree.specs.Orders.{KeepsClosed, ObeysPairs}
+use Rattle.cert_tree.specs.Orders.{ObeysPairs}
 use Rattle.cert_tree.proofs.Lawful.{tail_arrived}
 
 -- the first leg of a walk that gets to its end

@@ -7,13 +7,12 @@ use Rattle.fleet_base.specs.declared.order.Side.{Side}
 use Rattle.fleet_base.specs.declared.order.Side.TheVariants.{Lower, Higher}
 use Rattle.fleet_base.specs.Order.{Graph, IsGraph, HasEdge, IsSorted, IsSoundOrder, next_visit, first_visit, second_visit}
 use Rattle.fleet_base.specs.State.{FleetState}
-use Rattle.fleet_base.specs.Open.{is_open}
+use Rattle.fleet_base.specs.Open.{is_open, KeepsClosed}
 use Rattle.fleet_base.specs.Rules.{IsFleetState}
 use Rattle.fleet_base.specs.Schedule.{IsLawful, IsSchedule, ObeysEdge, ObeysSide, Obeys, IsCost}
 use Rattle.cert_tree.specs.Trees.{Tree, IsOptimalTree}
 use Rattle.fleet_base.proofs.Edges.{head_there}
 use Rattle.cert_tree.proofs.EdgeLaws.{visit_before}
-use Rattle.cert_tree.specs.Orders.{KeepsClosed}
 use Rattle.std.proofs.lemmas.Option.{slice_get_within}
 use Rattle.cert_tree.proofs.Walks.{tail_there}
 use Rattle.cert_tree.proofs.TreeBound.{optimal_below}

@@ -10,7 +10,7 @@ use Rattle.fleet_base.specs.declared.order.Side.{Side}
 use Rattle.fleet_base.specs.declared.order.Side.TheVariants.{Lower, Higher}
 use Rattle.fleet_base.specs.Order.{Graph, IsVisit, IsCycle, order_of, next_visit, first_visit, second_visit, other_side}
 use Rattle.fleet_base.specs.State.{FleetState}
-use Rattle.fleet_base.specs.Open.{is_open}
+use Rattle.fleet_base.specs.Open.{is_open, KeepsClosed}
 use Rattle.fleet_base.specs.Rules.{IsFleetState}
 use Rattle.fleet_base.specs.Schedule.{IsLawful, ObeysEdge, ObeysSide, Obeys, end_sum_of}
 use Rattle.fleet_base.proofs.Members.{head_in, in_one, in_none}
@@ -20,7 +20,7 @@ use Rattle.cert_tree.specs.Decisions.{Decision, side_on, order_on}
 use Rattle.cert_tree.specs.Trees.{Tree, EachNode, IsRight, IsClosing, IsOptimalTree, IsSpent, IsSpentTree, branch_to, force_to, left_costs}
 use Rattle.cert_tree.specs.Trees.Tree.{Fork, Forced, Refuted, Bounded, Left}
 use Rattle.fleet_base.proofs.OpenPairs.{open_listed}
-use Rattle.cert_tree.specs.Orders.{KeepsClosed, ObeysPairs}
+use Rattle.cert_tree.specs.Orders.{ObeysPairs}
 use Rattle.cert_tree.proofs.Lawful.{never_round}
 use Rattle.cert_tree.proofs.PathBound.{total_below}
 

@@ -7,11 +7,10 @@ use Rattle.fleet_base.specs.declared.geometry.Visit.{Visit}
 use Rattle.fleet_base.specs.declared.order.Side.{Side}
 use Rattle.fleet_base.specs.Order.{Graph, IsVisit, HasEdge}
 use Rattle.fleet_base.specs.State.{FleetState, duration_of}
-use Rattle.fleet_base.specs.Open.{is_open}
+use Rattle.fleet_base.specs.Open.{is_open, KeepsClosed}
 use Rattle.fleet_base.specs.Rules.{IsFleetState}
 use Rattle.fleet_base.specs.Paths.{travel}
 use Rattle.fleet_base.proofs.OpenPairs.{open_goes_on}
-use Rattle.cert_tree.specs.Orders.{KeepsClosed}
 use Rattle.cert_tree.proofs.EdgeLaws.{visit}
 use Rattle.cert_tree.proofs.Lawful.{edge_of_state}
 

@@ -4,7 +4,7 @@ use Rattle.std.specs.List.Sorted.{IsStrictlyIncreasing}
 use Rattle.fleet_base.specs.declared.order.PairId.{PairId}
 use Rattle.fleet_base.specs.declared.order.Side.{Side}
 use Rattle.fleet_base.specs.declared.order.Side.TheVariants.{Lower, Higher}
-use Rattle.fleet_base.specs.Bytes.{field, whole_lines, pieces_of, last_piece}
+use Rattle.fleet_base.specs.Bytes.{field, whole_lines, pieces_of, last_piece, text_of_lines}
 use Rattle.cert_tree.specs.declared.node.CertPath.{CertPath}
 use Rattle.cert_tree.specs.declared.node.Node.{Node}
 use Rattle.cert_tree.specs.declared.node.Node.TheVariants.{Branch, Force, Cyclic, Bound, OpenLeaf}
@@ -37,10 +37,6 @@ node_lines (OpenLeaf least) = (codes "cert open" ++ field least) ∷ []
 -- the lines of a certificate
 abbrev pub cert_lines : List Node → List (List ℕ)
 cert_lines nodes = flat_map node_lines nodes
-
--- lines as a text: an LF ends each
-abbrev pub text_of_lines : List (List ℕ) → List ℕ
-text_of_lines lines = flat_map (λ line. line ++ 10 ∷ []) lines
 
 -- the text of a certificate
 abbrev pub cert_text : List Node → List ℕ

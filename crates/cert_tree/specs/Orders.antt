@@ -7,10 +7,6 @@ use Rattle.fleet_base.specs.State.{FleetState}
 use Rattle.fleet_base.specs.Open.{is_open}
 use Rattle.fleet_base.specs.Schedule.{ObeysEdge}
 
--- the order keeps the sides of the closed pairs
-abbrev pub KeepsClosed : Graph → FleetState → (ℕ → Option Side) → Type 0
-KeepsClosed g x order = (q : ℕ) → is_open g x q ≡ false → order q ≡ order_of x.sides q
-
 -- a schedule obeys the edge of every pair that has a side
 abbrev pub ObeysPairs : Graph → FleetState → (ℕ → Option Side) → (Visit → ℕ) → Type 0
 ObeysPairs g x order s = (q : ℕ) (u v : Visit) → HasEdge g order q u v → ObeysEdge x s u v

@@ -3,13 +3,16 @@ ghost use Rattle.cert_tree.specs.declared.fault.LineFault.TheVariants as line_fa
 ghost use Rattle.cert_tree.specs.Reading.{fault_at};
 
 use fleet_base::Memory;
+use thiserror::Error;
 
 /// Why a text is not read as a certificate.
-#[derive(Clone, Copy, Debug, PartialEq, Eq)]
+#[derive(Clone, Copy, Debug, PartialEq, Eq, Error)]
 pub enum CertError {
     /// The text is not in the grammar, which this line, counted from 1, is the first to leave.
+    #[error("line {line} is no line of a certificate")]
     Fault { line: u32 },
     /// Want of memory.
+    #[error("out of memory")]
     Memory,
 }
 

@@ -1,10 +1,10 @@
 ghost use Rattle.std.specs.Prelude.{◌≡◌, ◌<◌, ◌^◌, ◌++◌, ◌∷◌, [], OnOk, OnErr, All, map};
-ghost use Rattle.fleet_base.specs.Bytes.{field, AppendsFront};
+ghost use Rattle.fleet_base.specs.Bytes.{field, AppendsFront, text_of_lines};
 ghost use Rattle.cert_tree.specs.declared.node.Node.TheVariants.{Bound, Branch, Cyclic, Force};
-ghost use Rattle.cert_tree.specs.CertText.{IsWritten, IsCertText, HasNumbers, HavePairNumbers, IsNumbered, cert_text, node_lines, path_line, pair_fields, pair_numbers, side_word, text_of_lines};
+ghost use Rattle.cert_tree.specs.CertText.{IsWritten, IsCertText, HasNumbers, HavePairNumbers, IsNumbered, cert_text, node_lines, path_line, pair_fields, pair_numbers, side_word};
 
 use crate::{Cert, CertPath, Node};
-use fleet_base::{Memory, PairId, Side, Text, push_bytes, push_number};
+use fleet_base::{Memory, PairId, Side, Text, push_bytes, push_field};
 
 /// Appends the text of a certificate: the lines of its nodes, each with its LF. `read_cert` reads the same nodes from it.
 /// For want of memory some of it is missing at the end.
@@ -129,14 +129,6 @@ fn push_pair_numbers(out: &mut Text, pairs: &[PairId]) -> Result<(), Memory>
         push_field(out, u64::from(pair.0))?;
     }
     Ok(())
-}
-
-fn push_field(out: &mut Text, number: u64) -> Result<(), Memory>
-    ensures ok { OnOk result (out.new ≡ out.old ++ field number) }
-    ensures err { OnErr result (AppendsFront out.old out.new (field number)) }
-{
-    out.push(b' ')?;
-    push_number(out, number)
 }
 
 /// A side's word behind a space.

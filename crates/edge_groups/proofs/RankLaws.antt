@@ -12,7 +12,7 @@ use Rattle.fleet_base.specs.declared.order.Pair.{Pair}
 use Rattle.fleet_base.specs.Lists.{row_of}
 use Rattle.fleet_base.specs.Order.{Graph, graph_of}
 use Rattle.fleet_base.specs.Groups.{AreMates, AreOneApart}
-use Rattle.plan_graph.specs.Limits.{IsPlanGraph, IsWithinLimits}
+use Rattle.plan_graph.specs.Limits.{IsPlanGraph, IsGraphWithinLimits}
 use Rattle.plan_graph.proofs.PlanGraphs.{plan_graph_is_graph, plan_graph_within_limits, index_within}
 use Rattle.edge_groups.specs.Ranks.{rank_of, rank_in, IsBehind}
 use Rattle.edge_groups.proofs.Ascending.{Ascends, ascends_at, pairs_ascend}
@@ -88,8 +88,8 @@ module _ (g : Graph) (plan : IsPlanGraph g) where
       let b = pair_at k there in
       omega (arith, rank_is j a.0 a.1, rank_is k b.0 b.1, ascends_at rank_of g.pairs ascends j k a.0 b.0 a.1 b.1 lt)
     where
-      within : IsWithinLimits (graph_of plan.routes)
-      within = subst (λ (h : Graph). IsWithinLimits h) plan.plan (plan_graph_within_limits g plan)
+      within : IsGraphWithinLimits (graph_of plan.routes)
+      within = subst (λ (h : Graph). IsGraphWithinLimits h) plan.plan (plan_graph_within_limits g plan)
 
       few : length plan.routes ≤ 256
       few = omega (arith, within.robots.1, length-map (λ (route : List PlannedVisit). length route - 1) plan.routes)
@@ -180,11 +180,3 @@ module _ (g : Graph) (plan : IsPlanGraph g) where
       go (inr (inr (inr e))) =
           let d = later a.0 b.0 sa sb (omega (arith, eq, er, e)) in
           record { one = a.0; two = b.0; one_listed = a.1; two_listed = b.1; lower_robot = d.0; higher_robot = d.1; lower_visits = inl d.2; higher_visits = inl d.3 }
-
--- mates are mates the other way round
-pub mates_turned : (g : Graph) (q r : ℕ) → AreMates g q r → AreMates g r q
-mates_turned g q r m = record { one = m.two; two = m.one; one_listed = m.two_listed; two_listed = m.one_listed; lower_robot = sym m.lower_robot; higher_robot = sym m.higher_robot; lower_visits = swap m.lower_visits; higher_visits = swap m.higher_visits }
-  where
-    swap : {a b : ℕ} → AreOneApart a b → AreOneApart b a
-    swap (inl e) = inr e
-    swap (inr e) = inl e

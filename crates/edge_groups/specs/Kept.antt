@@ -1,6 +1,7 @@
 -- A table as it is kept: the least pairs' numbers, and the mates of all pairs, one after another.
 use Rattle.std.specs.Prelude.{ℕ, ◌+◌, ◌*◌, ◌/◌, ◌%◌, ◌<◌, ◌≤◌, List, map, length, slice_index, slice_range}
 use Rattle.fleet_base.specs.declared.order.PairId.{PairId}
+use Rattle.fleet_base.specs.Limits.{pair_limit}
 use Rattle.edge_groups.specs.declared.lists.MateLists.{MateLists}
 use Rattle.edge_groups.specs.declared.table.GroupTable.TheInside.{Inside}
 use Rattle.edge_groups.specs.Names.{AreNames}
@@ -21,7 +22,7 @@ AreWithin places count = (k : ℕ) → k < length places → slice_index places 
 pub record AreKept (lists : MateLists) : Type 0 where
   pub within : AreWithin lists.places.items (length lists.mates.items)
   pub short : length lists.mates.items ≤ 8 * length lists.places.items
-  pub few : length lists.places.items ≤ 1048576
+  pub few : length lists.places.items ≤ pair_limit
 
 -- the mates are kept, and the least number of each group stands with each of its pairs
 pub record IsGroupTable (t : Inside) : Type 0 where

@@ -22,7 +22,3 @@ pub record AreMatesOf (g : Graph) (q : ℕ) (list : List PairId) : Type 0 where
 pub record AreAllMates (g : Graph) (rows : List (List PairId)) : Type 0 where
   pub count : length rows ≡ length g.pairs
   pub lists : (q : ℕ) → q < length g.pairs → AreMatesOf g q (row_of rows q)
-
--- the order gives each closed pair the side that the state gives it
-abbrev pub KeepsClosedPairs : Graph → FleetState → (ℕ → Option Side) → Type 0
-KeepsClosedPairs g x order = (q : ℕ) → is_open g x q ≡ false → order q ≡ order_of x.sides q

@@ -1,6 +1,7 @@
 // Pairs found by their ranks, in one way through the table.
 ghost use Rattle.std.specs.Prelude.{ℕ, ◌≡◌, ◌+◌, ◌^◌, ◌<◌, ◌≤◌, length};
 ghost use Rattle.edge_groups.specs.Ranks.{rank_in, rank_of, IsBehind, IsReached};
+ghost use Rattle.fleet_base.specs.Limits.{robot_limit, visit_limit};
 
 use fleet_base::{Pair, PairId};
 use plan_graph::PlanGraph;
@@ -70,12 +71,12 @@ pub(crate) fn rank_at(graph: &PlanGraph, q: PairId) -> u64
     rank(graph.pair(q))
 }
 
-/// The place of a pair of 256 robots and 65,536 visits at most.
+/// The place of a pair, by its robots and then by its visits.
 fn rank(pair: Pair) -> u64
-    requires lower { pair.lower.robot < 256 }
-    requires higher { pair.higher.robot < 256 }
-    requires early { pair.lower.index < 65536 }
-    requires late { pair.higher.index < 65536 }
+    requires lower { pair.lower.robot < robot_limit }
+    requires higher { pair.higher.robot < robot_limit }
+    requires early { pair.lower.index < visit_limit }
+    requires late { pair.higher.index < visit_limit }
     ensures rank { result ≡ rank_of pair }
     ensures small { result < 2 ^ 50 }
 {

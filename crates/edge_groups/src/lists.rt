@@ -2,6 +2,7 @@
 ghost use Rattle.std.specs.Prelude.{ℕ, ◌≡◌, ◌+◌, ◌-◌, ◌*◌, ◌<◌, ◌≤◌, [], ◌∷◌, ◌++◌, drop, length, vec_len, OnOk};
 ghost use Rattle.std.specs.Option.{option_to_list};
 ghost use Rattle.fleet_base.specs.Lists.{row_of};
+ghost use Rattle.fleet_base.specs.Limits.{pair_limit};
 ghost use Rattle.edge_groups.specs.Kept.{rows_in, AreKept, AreWithin};
 
 use fleet_base::{Memory, PairId};
@@ -33,7 +34,7 @@ impl MateLists {
         ensures places { self.new.places.items ≡ self.old.places.items }
     {
         match mate {
-            Some(mate) => self.mates.push(mate).map_err(|_| Memory),
+            Some(mate) => Ok(self.mates.push(mate)?),
             None => Ok(()),
         }
     }
@@ -44,12 +45,12 @@ impl MateLists {
         requires start { start ≤ vec_len self.old.mates }
         requires four { vec_len self.old.mates ≤ start + 4 }
         requires short { vec_len self.old.mates ≤ 8 * vec_len self.old.places + 4 }
-        requires few { vec_len self.old.places < 1048576 }
+        requires few { vec_len self.old.places < pair_limit }
         ensures kept { OnOk result (AreKept self.new) }
         ensures rows { OnOk result (rows_in self.new ≡ rows_in self.old ++ drop start self.old.mates.items ∷ []) }
     {
         let count = self.mates.len() as u32 - start;
-        self.places.push(start * 8 + count).map_err(|_| Memory)
+        Ok(self.places.push(start * 8 + count)?)
     }
 
     /// The mates of a pair.

@@ -19,7 +19,7 @@ pub(crate) fn name_groups(alloc: Global, lists: &MateLists) -> Result<Vec<u32>, 
     ensures { IfOk result (λ names. AreNames (rows_in lists.now) names.items) }
 {
     let count = lists.places.len();
-    let mut names = vec![in alloc; UNNAMED; count].map_err(|_| Memory)?;
+    let mut names = vec![in alloc; UNNAMED; count]?;
     let mut waiting = Vec::new(alloc);
     for q in 0..count {
         if names[q] == UNNAMED {
@@ -82,5 +82,5 @@ fn name_mates(
 fn wait(waiting: &mut Vec<u32>, q: u32) -> Result<(), Memory>
     ensures { OnOk result (waiting.new.items ≡ waiting.old.items ++ q ∷ []) }
 {
-    waiting.push(q).map_err(|_| Memory)
+    Ok(waiting.push(q)?)
 }

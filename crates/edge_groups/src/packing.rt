@@ -23,7 +23,7 @@ pub(crate) fn pack(alloc: Global, graph: &PlanGraph, lists: &MateLists) -> Resul
     let count = lists.places.len();
     let beyond = all_beyond(alloc, graph)?;
     let mut packed = MateLists {
-        places: vec![in alloc; UNPLACED; count].map_err(|_| Memory)?,
+        places: vec![in alloc; UNPLACED; count]?,
         mates: Vec::new(alloc),
     };
     for first in 0..count {
@@ -41,7 +41,7 @@ fn all_beyond(alloc: Global, graph: &PlanGraph) -> Result<Vec<u32>, Memory> {
     for q in 0..graph.pair_count() {
         let rank = rank_at(graph, PairId(q));
         let next = cursor.find(graph, rank).unwrap_or(PairId(q));
-        beyond.push(next.0).map_err(|_| Memory)?;
+        beyond.push(next.0)?;
     }
     Ok(beyond)
 }
@@ -75,7 +75,7 @@ impl MateLists {
         ensures mates { OnOk result (self.new.mates.items ≡ self.old.mates.items ++ rest.now) }
         ensures places { self.new.places.items ≡ self.old.places.items }
     {
-        self.mates.extend_from_slice(rest).map_err(|_| Memory)
+        Ok(self.mates.extend_from_slice(rest)?)
     }
 
     /// Keeps the mates of a pair. What they begin with is not kept again where the list ends with it.

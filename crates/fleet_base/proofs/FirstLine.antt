@@ -99,6 +99,21 @@ file_lines-open text line some e cut = by_test (ltb (position_or_len is_end text
         ∙ ap (λ front. front ∷ file_lines (after_first is_end text)) (sym cut)
         ∙ ap (λ rest. line ∷ file_lines rest) (drop_all (position_or_len is_end text + 1) text (omega arith) ∙ sym (drop_all (length text) text (omega arith)) ∙ sym (take_rest text (length text)))
 
+-- what is behind the line is what stands after the first LF
+pub behind_ended : (text : List ℕ) (i : ℕ) → position is_end text ≡ Some i → take (length text - (i + 1)) (drop (i + 1) text) ≡ after_first is_end text
+behind_ended text i e =
+    let parts : (ltb (position_or_len is_end text) (length text) ≡ true) × (position_or_len is_end text ≡ i) = cond_some _ _ _ e in
+    take_rest text (i + 1) ∙ ap (λ n. drop (n + 1) text) (sym parts.1)
+
+pub behind_open : (text : List ℕ) → position is_end text ≡ None → take (length text - length text) (drop (length text) text) ≡ after_first is_end text
+behind_open text e = by_test (ltb (position_or_len is_end text) (length text)) refl
+  where
+    by_test : (b : Bool) → ltb (position_or_len is_end text) (length text) ≡ b → take (length text - length text) (drop (length text) text) ≡ after_first is_end text
+    by_test true f = cc
+    by_test false f =
+        let past : length text ≤ position_or_len is_end text = ltb-false _ _ f in
+        take_rest text (length text) ∙ drop_all (length text) text (omega arith) ∙ sym (drop_all (position_or_len is_end text + 1) text (omega arith))
+
 -- a text has no more lines than bytes
 pub length-file_lines : (text : List ℕ) → length (file_lines text) ≤ length text
 length-file_lines text = omega (arith, length-map (without_empty_end (pieces_of text)) without_cr, few text)

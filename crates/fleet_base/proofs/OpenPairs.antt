@@ -11,7 +11,8 @@ use Rattle.fleet_base.specs.Order.{Graph, IsGraph, IsVisit, last_in, next_visit,
 use Rattle.fleet_base.specs.State.{FleetState, IsReleased, released_count}
 use Rattle.fleet_base.specs.Open.{is_open, is_settled}
 
-neither : (s t : Bool) → (not s && not t) ≡ true → (s ≡ false) × (t ≡ false)
+-- where neither may be, both are not
+pub neither : (s t : Bool) → (not s && not t) ≡ true → (s ≡ false) × (t ≡ false)
 neither true t h = cc
 neither false true h = cc
 neither false false h = (refl, refl)

@@ -1,5 +1,6 @@
 -- The numbers of the pairs in which each visit stands, kept beside the pairs.
 use Rattle.std.specs.Prelude.{ℕ, ◌≡◌, ◌<◌, ◌≤◌, List, [], ◌∷◌, ◌++◌, map, replicate, length, slice_set}
+use Rattle.fleet_base.specs.Limits.{pair_limit}
 use Rattle.fleet_base.specs.declared.geometry.Visit.{Visit}
 use Rattle.fleet_base.specs.declared.geometry.PlannedVisit.{PlannedVisit}
 use Rattle.fleet_base.specs.declared.order.Pair.{Pair}
@@ -13,7 +14,7 @@ pub record ArePairs (pairs : List Pair) : Type 0 where
   pub routes : List (List PlannedVisit)
   pub plan : AreRoutes routes
   pub all : pairs ≡ pairs_of routes
-  pub few : length pairs ≤ 1048576
+  pub few : length pairs ≤ pair_limit
 
 -- the list that is kept for a visit
 abbrev pub numbers_at : List (List (List PairId)) → ℕ → ℕ → List PairId

@@ -1,5 +1,5 @@
 ghost use Rattle.std.specs.Prelude.{◌≡◌, ◌++◌, ◌↔◌, ℕ, List, IsSome, IfSome, IfNone, IsTrue, OnOk, OnErr, decimal};
-ghost use Rattle.fleet_base.specs.Bytes.{IsNumber, AppendsFront, HasSignOrLeadingZero};
+ghost use Rattle.fleet_base.specs.Bytes.{IsNumber, AppendsFront, HasSignOrLeadingZero, field, fields};
 
 use crate::{Memory, Text};
 
@@ -41,4 +41,24 @@ pub fn push_number(out: &mut Text, value: u64) -> Result<(), Memory>
     }
     push_number(out, value / 10)?;
     out.push(digit)
+}
+
+/// Appends a space and a number; for want of memory some of them is missing at the end.
+pub fn push_field(out: &mut Text, value: u64) -> Result<(), Memory>
+    ensures ok { OnOk result (out.new ≡ out.old ++ field value) }
+    ensures err { OnErr result (AppendsFront out.old out.new (field value)) }
+{
+    out.push(b' ')?;
+    push_number(out, value)
+}
+
+/// Appends numbers, each behind a space; for want of memory some of them are missing at the end.
+pub fn push_fields(out: &mut Text, values: &[u64]) -> Result<(), Memory>
+    ensures ok { OnOk result (out.new ≡ out.old ++ fields values.now) }
+    ensures err { OnErr result (AppendsFront out.old out.new (fields values.now)) }
+{
+    for value in values {
+        push_field(out, *value)?;
+    }
+    Ok(())
 }

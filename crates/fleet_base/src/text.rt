@@ -1,5 +1,5 @@
 ghost use Rattle.std.specs.Prelude.{◌≡◌, ◌<◌, ◌≤◌, ◌==◌, ◌∷◌, ◌++◌, [], length, IfNone, IfSome, OnOk, OnErr};
-ghost use Rattle.std.specs.List.{position};
+ghost use Rattle.std.specs.List.{position, after_first};
 ghost use Rattle.fleet_base.specs.Bytes.{AppendsFront, file_lines, without_cr};
 
 use crate::{Memory, Text};
@@ -20,6 +20,7 @@ pub fn first_line(text: &[u8]) -> Option<(&[u8], &[u8])>
     ensures some { IfSome result (λ next. file_lines text.now ≡ next.0.now ∷ file_lines next.1.now) }
     ensures none { IfNone result (file_lines text.now ≡ []) }
     ensures line { IfSome result (λ next. length next.0.now ≤ length text.now) }
+    ensures behind { IfSome result (λ next. next.1.now ≡ after_first (λ byte. byte == 10) text.now) }
     ensures rest { IfSome result (λ next. length next.1.now < length text.now) }
 {
     if text.is_empty() {

@@ -30,10 +30,10 @@ impl TickRow {
         requires { 1 ≤ room }
         ensures { IfOk result (λ row. row ≡ record { ticks = 0 ∷ []; room = room }) }
     {
-        match vec![in alloc; 0; room] {
-            Ok(ticks) => Ok(TickRow { ticks, filled: 1 }),
-            Err(_) => Err(Memory),
-        }
+        Ok(TickRow {
+            ticks: vec![in alloc; 0; room]?,
+            filled: 1,
+        })
     }
 
     /// How many visits have a tick.
@@ -67,13 +67,10 @@ impl TickRow {
     pub fn copy(&self, alloc: Global) -> Result<TickRow, Memory>
         ensures { IfOk result (λ other. other ≡ self.now) }
     {
-        match Vec::from_slice(alloc, &self.ticks) {
-            Ok(ticks) => Ok(TickRow {
-                ticks,
-                filled: self.filled,
-            }),
-            Err(_) => Err(Memory),
-        }
+        Ok(TickRow {
+            ticks: Vec::from_slice(alloc, &self.ticks)?,
+            filled: self.filled,
+        })
     }
 }
 
@@ -100,7 +97,7 @@ impl TickRows {
         let mut rows = Vec::new(alloc);
         for last in lasts {
             let row = TickRow::start(alloc, *last as usize + 1)?;
-            rows.push(row).map_err(|_| Memory)?;
+            rows.push(row)?;
         }
         Ok(TickRows { rows })
     }
@@ -140,7 +137,7 @@ impl TickRows {
     {
         let mut rows = Vec::new(alloc);
         for row in &self.rows {
-            rows.push(row.copy(alloc)?).map_err(|_| Memory)?;
+            rows.push(row.copy(alloc)?)?;
         }
         Ok(TickRows { rows })
     }

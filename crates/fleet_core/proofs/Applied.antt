@@ -17,7 +17,7 @@ use Rattle.fleet_base.specs.Rules.{IsFleetState}
 use Rattle.fleet_base.proofs.Settling.{IsHeard}
 use Rattle.fleet_core.specs.declared.judging.Judged.TheVariants.{Accept}
 use Rattle.fleet_core.specs.Judgement.{judgement_of}
-use Rattle.fleet_core.specs.Step.{Step, IsChoice, MaySwitch, heard_of, tick_of}
+use Rattle.fleet_core.specs.Step.{Step, IsChoice, OnlyDelaysSwitch, heard_of, tick_of}
 use Rattle.fleet_core.specs.Pushing.{pushed, HaveRoom}
 use Rattle.fleet_core.proofs.Arriving.{accepted_arrival, heard_keeps as arrival_heard}
 use Rattle.fleet_core.proofs.Delaying.{accepted_delay, heard_keeps as delay_heard}
@@ -46,13 +46,13 @@ abbrev pub switched_state : FleetState → Report → List PairId → FleetState
 switched_state x report switched = record (heard_of x report) { sides = turned x.sides switched }
 
 -- it is ready to be settled
-pub switched_heard : (g : Graph) (x : FleetState) (report : Report) (switched : List PairId) → IsFleetState g x → judgement_of x report ≡ Accept → x.count < 2 ^ 62 → MaySwitch report switched → IsChoice g x report switched → IsHeard g (switched_state x report switched)
+pub switched_heard : (g : Graph) (x : FleetState) (report : Report) (switched : List PairId) → IsFleetState g x → judgement_of x report ≡ Accept → x.count < 2 ^ 62 → OnlyDelaysSwitch report switched → IsChoice g x report switched → IsHeard g (switched_state x report switched)
 switched_heard g x (Arrive i k tick) switched s accepted few none choice =
     subst (λ (qs : List PairId). IsHeard g (switched_state x (Arrive i k tick) qs)) (sym none) (arrival_heard g x i k tick s (accepted_arrival x i k tick accepted) few)
 switched_heard g x (Delay i k extra tick) switched s accepted few may choice = delay_heard g x i k extra tick switched s (accepted_delay x i k extra tick accepted) few choice
 
 -- where no pair is turned nothing is asked
-pub may_switch_none : (report : Report) → MaySwitch report []
+pub may_switch_none : (report : Report) → OnlyDelaysSwitch report []
 may_switch_none (Arrive i k tick) = refl
 may_switch_none (Delay i k extra tick) = tt
 

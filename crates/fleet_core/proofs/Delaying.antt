@@ -20,6 +20,8 @@ use Rattle.fleet_base.specs.State.{FleetState, arrived, released, released_count
 use Rattle.fleet_base.specs.Rules.{IsFleetState}
 use Rattle.fleet_base.proofs.Settling.{IsHeard, settles}
 use Rattle.fleet_base.proofs.Turning.{turned_or_old, length-turned}
+use Rattle.fleet_base.specs.Limits.{delay_limit, moment_limit}
+use Rattle.fleet_base.proofs.OpenPairs.{open_unsettled}
 use Rattle.fleet_core.specs.declared.judging.Judged.TheVariants.{Accept, Known, Refused}
 use Rattle.fleet_core.specs.Judgement.{judgement_of, is_bad_tick}
 use Rattle.fleet_core.specs.Step.{Step, IsChoice, heard_of}
@@ -30,8 +32,8 @@ pub record IsDelay (x : FleetState) (i k extra tick : ℕ) : Type 0 where
   pub robot : i < length x.lasts
   pub ahead : arrived x i < k
   pub after : x.clock ≤ tick
-  pub before : tick ≤ 10 ^ 12
-  pub size : extra ≤ 1000000
+  pub before : tick ≤ moment_limit
+  pub size : extra ≤ delay_limit
 
 pub accepted_delay : (x : FleetState) (i k extra tick : ℕ) → judgement_of x (Delay i k extra tick) ≡ Accept → IsDelay x i k extra tick
 accepted_delay x i k extra tick e =
@@ -40,27 +42,17 @@ accepted_delay x i k extra tick e =
     let c = passed (ltb (arrived x i) k && eqb extra (delay_of x (record { robot = i; index = k }))) Known _ (λ h. cc) b.1 in
     let d = passed (leb k (arrived x i)) (Refused Arrived) _ (λ h. cc) c.1 in
     let f = passed (is_bad_tick x tick) (Refused Tick) _ (λ h. cc) d.1 in
-    let z = passed (ltb 1000000 extra) (Refused Size) Accept (λ h. cc) f.1 in
-    let t = neither (ltb tick x.clock) (ltb (10 ^ 12) tick) f.0 in
+    let z = passed (ltb delay_limit extra) (Refused Size) Accept (λ h. cc) f.1 in
+    let t = neither (ltb tick x.clock) (ltb moment_limit tick) f.0 in
     record { robot = leb-false _ _ a.0; ahead = leb-false _ _ d.0; after = ltb-false _ _ t.0; before = ltb-false _ _ t.1; size = ltb-false _ _ z.0 }
 
 -- ---- open pairs
 
-pub both_not : (a b : Bool) → (not a && not b) ≡ true → (a ≡ false) × (b ≡ false)
-both_not true b h = cc
-both_not false true h = cc
-both_not false false h = (refl, refl)
-
-either_not : (a b : Bool) → (a || b) ≡ false → a ≡ false
-either_not true b h = cc
-either_not false b h = refl
-
 -- no visit of an open pair is released
 open_unreleased : (g : Graph) (x : FleetState) (q : ℕ) (p : Pair) → slice_get g.pairs q ≡ Some p → is_open g x q ≡ true → (released_count x p.lower.robot ≤ p.lower.index) × (released_count x p.higher.robot ≤ p.higher.index)
 open_unreleased g x q p e o =
-    let f : (not (is_settled g x p.lower) && not (is_settled g x p.higher)) ≡ true = subst (λ (r : Option Pair). option_map_or (λ (s : Pair). not (is_settled g x s.lower) && not (is_settled g x s.higher)) r false ≡ true) e o in
-    let b = both_not (is_settled g x p.lower) (is_settled g x p.higher) f in
-    (ltb-false _ _ (either_not _ _ b.0), ltb-false _ _ (either_not _ _ b.1))
+    let b = open_unsettled g x q p e o in
+    (ltb-false _ _ (neither _ _ b.0).0, ltb-false _ _ (neither _ _ b.1).0)
 
 second_unreleased : (x : FleetState) (p : Pair) (s : Side) → (released_count x p.lower.robot ≤ p.lower.index) × (released_count x p.higher.robot ≤ p.higher.index) → released_count x (second_visit p s).robot ≤ (second_visit p s).index
 second_unreleased x p Lower h = h.1
@@ -118,10 +110,10 @@ module _ (g : Graph) (x : FleetState) (i k extra tick : ℕ) (switched : List Pa
       go (inl e) (inr ne) = inl (subst (λ (n : ℕ). slice_index (row_of heard.delays n) v.index ≡ slice_index (row_of x.delays n) v.index) (sym e) (ap (λ (r : List ℕ). get_or r v.index 0) own_row ∙ get_or-set_other (row_of x.delays i) k v.index extra 0 ne))
       go (inr ne) o = inl (ap (λ (r : List ℕ). get_or r v.index 0) (other_row v.robot ne))
 
-  small : (v : Visit) → delay_of heard v ≤ 1000000
+  small : (v : Visit) → delay_of heard v ≤ delay_limit
   small v = go (old_or_new v) (cases_lt k (length (row_of x.delays i)))
     where
-      go : (delay_of heard v ≡ delay_of x v) ⊎ ((v.robot ≡ i) × (v.index ≡ k)) → (k < length (row_of x.delays i)) ⊎ (length (row_of x.delays i) ≤ k) → delay_of heard v ≤ 1000000
+      go : (delay_of heard v ≡ delay_of x v) ⊎ ((v.robot ≡ i) × (v.index ≡ k)) → (k < length (row_of x.delays i)) ⊎ (length (row_of x.delays i) ≤ k) → delay_of heard v ≤ delay_limit
       go (inl e) o = omega (arith, e, s.delays v)
       go (inr e) (inl h) =
           let d : delay_of heard v ≡ extra = ap (λ (j : ℕ). get_or (row_of heard.delays j) v.index 0) e.0 ∙ ap (λ (m : ℕ). get_or (row_of heard.delays i) m 0) e.1 ∙ ap (λ (r : List ℕ). get_or r k 0) own_row ∙ get_or-set_same (row_of x.delays i) k extra 0 h in

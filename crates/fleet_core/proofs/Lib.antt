@@ -6,3 +6,4 @@ pub mod Starting
 pub mod Switching
 pub mod Prepared
 pub mod InPlace
+pub mod Counts

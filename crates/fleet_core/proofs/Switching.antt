@@ -23,7 +23,7 @@ use Rattle.fleet_core.specs.declared.entry.PrepareError.TheVariants.{ChoiceRefus
 use Rattle.fleet_core.specs.declared.entry.ChoiceWhy.TheVariants.{Cyclic}
 use Rattle.fleet_core.specs.Switching.{AreSwitchable, OrderIs, SwitchIs}
 use Rattle.fleet_base.proofs.Turning.{turned_or_old, length-turned}
-use Rattle.fleet_core.proofs.Delaying.{both_not}
+use Rattle.fleet_base.proofs.OpenPairs.{open_unsettled}
 
 -- ---- orders that give each pair the same side
 
@@ -53,12 +53,6 @@ followed g x v there h = record { robot = there.robot; index = omega (arith, the
   where
     ne : v.index ≢ last_in g v.robot
     ne e = false≢true (sym (second_or (nat_lt v.index (released_count x v.robot)) (v.index == last_in g v.robot) h) ∙ eq-eqb v.index (last_in g v.robot) e)
-
--- neither visit of an open pair is settled
-open_unsettled : (g : Graph) (x : FleetState) (q : ℕ) (p : Pair) → slice_get g.pairs q ≡ Some p → is_open g x q ≡ true → (is_settled g x p.lower ≡ false) × (is_settled g x p.higher ≡ false)
-open_unsettled g x q p e o =
-    both_not (is_settled g x p.lower) (is_settled g x p.higher)
-    (subst (λ (r : Option Pair). option_map_or (λ (s : Pair). not (is_settled g x s.lower) && not (is_settled g x s.higher)) r false ≡ true) e o)
 
 first_followed : (g : Graph) (x : FleetState) (p : Pair) (side : Side) → IsVisit g p.lower → IsVisit g p.higher → (is_settled g x p.lower ≡ false) × (is_settled g x p.higher ≡ false) → IsVisit g (next_visit (first_visit p side))
 first_followed g x p Lower l h o = followed g x p.lower l o.0

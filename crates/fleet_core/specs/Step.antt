@@ -24,9 +24,9 @@ heard_of x (Arrive i k tick) = record x { arrivals = slice_set x.arrivals i (row
 heard_of x (Delay i k extra tick) = record x { delays = slice_set x.delays i (slice_set (row_of x.delays i) k extra); clock = tick; count = x.count + 1 }
 
 -- only a delay may switch
-abbrev pub MaySwitch : Report → List PairId → Type 0
-MaySwitch (Arrive i k tick) switched = switched ≡ []
-MaySwitch (Delay i k extra tick) switched = Unit {0}
+abbrev pub OnlyDelaysSwitch : Report → List PairId → Type 0
+OnlyDelaysSwitch (Arrive i k tick) switched = switched ≡ []
+OnlyDelaysSwitch (Delay i k extra tick) switched = Unit {0}
 
 -- the report may be accepted, and the pairs may be named for it
 pub record IsProposal (g : Graph) (x : FleetState) (report : Report) (switched : List PairId) : Type 0 where
@@ -34,7 +34,7 @@ pub record IsProposal (g : Graph) (x : FleetState) (report : Report) (switched :
   pub count : x.count < 2 ^ 62
   pub ascending : IsStrictlyIncreasing (map (λ q. q.0) switched)
   pub there : All (λ q. q.0 < length g.pairs) switched
-  pub switches : MaySwitch report switched
+  pub switches : OnlyDelaysSwitch report switched
 
 -- each switched pair is open after the report, and the new order is sound
 pub record IsChoice (g : Graph) (x : FleetState) (report : Report) (switched : List PairId) : Type 0 where

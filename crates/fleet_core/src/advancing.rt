@@ -1,6 +1,7 @@
 // The step of a report that switches no pair.
 ghost use Rattle.std.specs.Prelude.{◌≡◌, ◌<◌, ◌^◌, []};
 ghost use Rattle.fleet_base.specs.Rules.{IsFleetState};
+ghost use Rattle.fleet_base.specs.Limits.{report_limit};
 ghost use Rattle.release_rule.specs.Releasing.{IsOutFor};
 ghost use Rattle.fleet_core.specs.declared.judging.Judged.TheVariants.{Accept};
 ghost use Rattle.fleet_core.specs.Judgement.{judgement_of};
@@ -17,7 +18,7 @@ use release_rule::{Out, kept_order_releases};
 pub fn advance(graph: &PlanGraph, fleet: &mut Fleet, report: &Report, out: &mut Out)
     requires state { IsFleetState graph.now fleet.old }
     requires accepted { judgement_of fleet.old report.now ≡ Accept }
-    requires count { fleet.old.count < 2 ^ 62 }
+    requires count { fleet.old.count < report_limit }
     requires out { IsOutFor graph.now out.old }
     ensures step { Step graph.now fleet.old report.now [] out.new.list fleet.new }
     ensures rules { IsFleetState graph.now fleet.new }

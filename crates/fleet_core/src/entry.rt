@@ -1,6 +1,7 @@
 ghost use Rattle.std.specs.Prelude.{◌≡◌};
 
 use fleet_base::{Memory, PairId, PairList, Report, VisitList};
+use thiserror::Error;
 
 /// One event of the fleet: an accepted report, the pairs whose sides it turns, and the visits that it releases.
 #[derive(Debug, Drop)]
@@ -20,10 +21,12 @@ pub enum ChoiceWhy {
 }
 
 /// Why there is no entry.
-#[derive(Clone, Copy, Debug, PartialEq, Eq)]
+#[derive(Clone, Copy, Debug, PartialEq, Eq, Error)]
 pub enum PrepareError {
     /// The pairs are not switched: the pair is the first that is not open, or else the first of them.
+    #[error("the pairs are not switched")]
     ChoiceRefused { pair: PairId, why: ChoiceWhy },
+    #[error("out of memory")]
     Memory,
 }
 

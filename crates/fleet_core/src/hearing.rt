@@ -3,6 +3,7 @@ ghost use Rattle.std.specs.Prelude.{◌≡◌, ◌<◌, ◌^◌, IfOk};
 ghost use Rattle.fleet_core.specs.declared.judging.Judged.TheVariants.{Accept};
 ghost use Rattle.fleet_core.specs.Judgement.{judgement_of};
 ghost use Rattle.fleet_core.specs.Step.{heard_of};
+ghost use Rattle.fleet_base.specs.Limits.{report_limit};
 
 use fleet_base::{Fleet, Memory, Report, Visit};
 use std::alloc::Global;
@@ -11,7 +12,7 @@ use std::alloc::Global;
 /// tick as the moment, and one report more.
 pub fn heard(alloc: Global, fleet: &Fleet, report: &Report) -> Result<Fleet, Memory>
     requires accepted { judgement_of fleet.now report.now ≡ Accept }
-    requires count { fleet.now.count < 2 ^ 62 }
+    requires count { fleet.now.count < report_limit }
     ensures { IfOk result (λ other. other ≡ heard_of fleet.now report.now) }
 {
     let mut other = fleet.copy(alloc)?;
@@ -22,7 +23,7 @@ pub fn heard(alloc: Global, fleet: &Fleet, report: &Report) -> Result<Fleet, Mem
 /// Applies an accepted report to the fleet.
 pub(crate) fn hear(fleet: &mut Fleet, report: &Report)
     requires accepted { judgement_of fleet.old report.now ≡ Accept }
-    requires count { fleet.old.count < 2 ^ 62 }
+    requires count { fleet.old.count < report_limit }
     ensures { fleet.new ≡ heard_of fleet.old report.now }
 {
     let count = fleet.count() + 1;

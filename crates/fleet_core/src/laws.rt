@@ -7,6 +7,7 @@ ghost use Rattle.fleet_base.specs.declared.report.Report.TheVariants.{Arrive, De
 ghost use Rattle.fleet_base.specs.Order.{Graph};
 ghost use Rattle.fleet_base.specs.State.{FleetState, arrived};
 ghost use Rattle.fleet_base.specs.Rules.{IsFleetState};
+ghost use Rattle.fleet_base.specs.Limits.{report_limit};
 ghost use Rattle.fleet_core.specs.declared.judging.Judged.TheVariants.{Accept};
 ghost use Rattle.fleet_core.specs.Judgement.{judgement_of};
 ghost use Rattle.fleet_core.specs.Step.{Step, heard_of};
@@ -25,7 +26,7 @@ pub fn a_step_keeps_the_rules()
 /// A state with an accepted delay applied keeps the rules of a fleet state, before any switch and release.
 pub fn a_heard_delay_keeps_the_rules()
     ensures { (g : Graph) (x : FleetState) (i k extra tick : ℕ) →
-        IsFleetState g x → judgement_of x (Delay i k extra tick) ≡ Accept → x.count < 2 ^ 62 → IsFleetState g (heard_of x (Delay i k extra tick)) }
+        IsFleetState g x → judgement_of x (Delay i k extra tick) ≡ Accept → x.count < report_limit → IsFleetState g (heard_of x (Delay i k extra tick)) }
 {}
 
 /// No event changes the window.

@@ -8,13 +8,13 @@ use Rattle.fleet_base.specs.declared.order.Side.{Side}
 use Rattle.fleet_base.specs.Order.{Graph, IsVisit, HasEdge, Before, next_visit}
 use Rattle.fleet_base.specs.State.{FleetState, arrived_count, duration_of}
 use Rattle.fleet_base.specs.Rules.{IsFleetState}
-use Rattle.fleet_base.specs.Schedule.{ObeysEdge, IsLeastSchedule}
+use Rattle.fleet_base.specs.Schedule.{ObeysEdge, IsLeastSchedule, own_tick}
 use Rattle.fleet_base.proofs.Edges.{head_there}
 use Rattle.fleet_base.proofs.Members.{place_of_element}
-use Rattle.plan_graph.specs.Limits.{IsWithinLimits, visit_count}
+use Rattle.fleet_base.specs.VisitRows.{tick_in, AreRowsFor}
+use Rattle.plan_graph.specs.Limits.{visit_count, IsGraphWithinLimits}
 use Rattle.longest_path.specs.Closed.{AgreesOnClosed}
-use Rattle.longest_path.specs.Earliest.{own_tick, IsEarliestAhead}
-use Rattle.longest_path.specs.Ticks.{tick_in, AreRowsFor}
+use Rattle.longest_path.specs.Earliest.{IsEarliestAhead}
 use Rattle.longest_path.specs.Kept.{AreSmall}
 use Rattle.longest_path.specs.Cells.{HasCell, AreAlike, put, is_marked, mark_count, cell_count}
 use Rattle.longest_path.specs.Rising.{Marked}
@@ -215,7 +215,7 @@ module _ (g : Graph) (x : FleetState) (state : IsFleetState g x) (order : ℕ �
             later w (inl h) = f.ahead w (inl h)
             later w (inr (iw, b)) = ahead_on v w iv iw b ahead_v
 
-        pub falling_less : IsWithinLimits g → mark_count more + 65537 * tick_total (put rows v m) ≤ mark_count marks + 65537 * tick_total rows
+        pub falling_less : IsGraphWithinLimits g → mark_count more + 65537 * tick_total (put rows v m) ≤ mark_count marks + 65537 * tick_total rows
         falling_less limits =
             let t = total_put (λ n. n) rows v m 0 has in
             let few = marks_within more in

@@ -12,8 +12,8 @@ use Rattle.fleet_base.specs.Rules.{IsFleetState}
 use Rattle.fleet_base.specs.Schedule.{ObeysEdge, IsLeastSchedule}
 use Rattle.fleet_base.proofs.Edges.{head_there}
 use Rattle.fleet_base.proofs.Members.{place_of_element}
+use Rattle.fleet_base.specs.VisitRows.{tick_in, AreRowsFor}
 use Rattle.longest_path.specs.Closed.{AgreesOnClosed}
-use Rattle.longest_path.specs.Ticks.{tick_in, AreRowsFor}
 use Rattle.longest_path.specs.Cells.{HasCell, put, is_marked, mark_count}
 use Rattle.longest_path.specs.Extending.{Extends, Reaches, HasOneMore, stays, goes}
 use Rattle.longest_path.specs.Working.{IsWorkFor, IsIdle, IsKeptBy, noted}

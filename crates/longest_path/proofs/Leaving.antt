@@ -9,11 +9,13 @@ use Rattle.fleet_base.specs.declared.order.Side.{Side}
 use Rattle.fleet_base.specs.declared.order.Side.TheVariants.{Lower, Higher}
 use Rattle.fleet_base.specs.Pairs.{numbers_of, same_visit}
 use Rattle.fleet_base.specs.Order.{Graph, IsGraph, IsVisit, HasEdge, Before, next_visit, first_visit, second_visit}
-use Rattle.plan_graph.proofs.Numbers.{stands_in, in_numbers, second_stands, same_visit-true}
+use Rattle.fleet_base.proofs.Places.{same_visit_is}
+use Rattle.fleet_base.proofs.PairNumbers.{is_of}
+use Rattle.plan_graph.proofs.Numbers.{in_numbers, second_stands}
 use Rattle.longest_path.proofs.Places.{visit}
 
 -- the first visit of a pair stands in it
-first_stands : (p : Pair) (side : Side) → stands_in p (first_visit p side) ≡ true
+first_stands : (p : Pair) (side : Side) → is_of p (first_visit p side) ≡ true
 first_stands p Lower = second_stands p Higher
 first_stands p Higher = second_stands p Lower
 
@@ -31,7 +33,7 @@ in_front u v e = λ j. record { robot = robot j; index = index j }
 pub out_numbered : (g : Graph) (order : ℕ → Option Side) (q : ℕ) (v w : Visit) → HasEdge g order q v w → Contains (numbers_of g.pairs (visit v.robot (v.index - 1))) (record { 0 = q })
 out_numbered g order q v w e =
     in_numbers g.pairs (visit v.robot (v.index - 1)) q e.pair e.listed
-    (subst (λ (u : Visit). stands_in e.pair u ≡ true) (sym (in_front (first_visit e.pair e.side) v e.tail)) (first_stands e.pair e.side))
+    (subst (λ (u : Visit). is_of e.pair u ≡ true) (sym (in_front (first_visit e.pair e.side) v e.tail)) (first_stands e.pair e.side))
 
 -- and no pair has an edge from a visit 0
 pub none_out : (g : Graph) (order : ℕ → Option Side) (q : ℕ) (v w : Visit) → v.index ≡ 0 → HasEdge g order q v w → ⊥
@@ -56,7 +58,7 @@ before_apart g graph order v w (inr (q, e)) same = edge_apart g graph order q v 
 
 -- visits that are not told apart are one
 pub same_where : (u v : Visit) → false ≡ not (same_visit u v) → u ≡ v
-same_where u v e = same_visit-true u v (go (same_visit u v) e)
+same_where u v e = same_visit_is u v (go (same_visit u v) e)
   where
     go : (b : Bool) → false ≡ not b → b ≡ true
     go true h = refl

@@ -10,14 +10,13 @@ use Rattle.fleet_base.specs.Lists.{row_of}
 use Rattle.fleet_base.specs.Order.{Graph, IsVisit, IsSorted}
 use Rattle.fleet_base.specs.State.{FleetState, HasArrived, arrived_count, arrival_tick_of, duration_of}
 use Rattle.fleet_base.specs.Rules.{IsFleetState}
-use Rattle.fleet_base.specs.Schedule.{IsLeastSchedule}
+use Rattle.fleet_base.specs.Schedule.{IsLeastSchedule, own_tick}
 use Rattle.fleet_base.proofs.Members.{element_at}
 use Rattle.fleet_base.proofs.Costs.{one_least}
-use Rattle.plan_graph.specs.Limits.{IsWithinLimits}
+use Rattle.fleet_base.specs.VisitRows.{tick_in, AreRowsFor}
 use Rattle.longest_path.specs.Closed.{AgreesOnClosed}
-use Rattle.longest_path.specs.Ticks.{tick_in, AreRowsFor}
 use Rattle.longest_path.specs.Kept.{AreSmall}
-use Rattle.longest_path.specs.Earliest.{own_tick, IsEarliestAt}
+use Rattle.longest_path.specs.Earliest.{IsEarliestAt}
 use Rattle.longest_path.proofs.Places.{visit}
 use Rattle.longest_path.proofs.Own.{earliest_ahead, earliest_at_ahead, earliest_at_arrived}
 use Rattle.longest_path.proofs.Reasons.{latest}
@@ -26,8 +25,9 @@ use Rattle.longest_path.proofs.Levels.{obeyed_sorted}
 use Rattle.longest_path.proofs.Working.{cell_visit}
 use Rattle.longest_path.proofs.Writing.{IsWritten, written, write_next, least_written}
 use Rattle.longest_path.proofs.Zeros.{zero_rows, zero_rows_for, zeros_small}
+use Rattle.plan_graph.specs.Limits.{IsGraphWithinLimits}
 
-module _ (g : Graph) (x : FleetState) (state : IsFleetState g x) (limits : IsWithinLimits g) (order : ℕ → Option Side) (list : List Visit) (sorted : IsSorted g order list) where
+module _ (g : Graph) (x : FleetState) (state : IsFleetState g x) (limits : IsGraphWithinLimits g) (order : ℕ → Option Side) (list : List Visit) (sorted : IsSorted g order list) where
   -- each visit has an earliest tick
   an_earliest : (s : Visit → ℕ) (v : Visit) → IsVisit g v → (m : ℕ) × IsEarliestAt g x order s v m
   an_earliest s v is = go (cases_lt v.index (arrived_count x v.robot))
@@ -78,6 +78,6 @@ small_rows g rows are each v = go (cases_lt v.robot (length rows)) (cases_lt v.i
     go (inr r) (inl i) = absurd (let z = ap (λ (row : List ℕ). length row) (get_or_past rows v.robot [] r) in omega (arith, z, i))
 
 -- the ticks of a least schedule in rows are small
-pub least_rows_small : (g : Graph) (x : FleetState) → IsFleetState g x → IsWithinLimits g → (order : ℕ → Option Side) → AgreesOnClosed g x order → (rows : List (List ℕ)) → AreRowsFor g rows → IsLeastSchedule g x order (tick_in rows) → AreSmall rows
+pub least_rows_small : (g : Graph) (x : FleetState) → IsFleetState g x → IsGraphWithinLimits g → (order : ℕ → Option Side) → AgreesOnClosed g x order → (rows : List (List ℕ)) → AreRowsFor g rows → IsLeastSchedule g x order (tick_in rows) → AreSmall rows
 least_rows_small g x state limits order closed rows are least =
     small_rows g rows are (least_small g x state limits order _ (obeyed_sorted g x state order closed (tick_in rows) least.obeys) (tick_in rows) least)

@@ -5,7 +5,7 @@ use Rattle.std.proofs.lemmas.List.{get_or_past}
 use Rattle.fleet_base.specs.declared.geometry.Visit.{Visit}
 use Rattle.fleet_base.specs.Lists.{row_of}
 use Rattle.fleet_base.specs.Order.{Graph, IsVisit}
-use Rattle.longest_path.specs.Ticks.{tick_in, AreRowsFor}
+use Rattle.fleet_base.specs.VisitRows.{tick_in, AreRowsFor}
 use Rattle.longest_path.specs.Cells.{HasCell, put, AreAlike, is_marked}
 use Rattle.longest_path.specs.Working.{IsWorkFor, IsIdle, IsKeptBy, saved_with, noted}
 use Rattle.longest_path.specs.declared.work.Work.{Work}

@@ -4,10 +4,9 @@ use Rattle.fleet_base.specs.declared.geometry.Visit.{Visit}
 use Rattle.fleet_base.specs.declared.order.Side.{Side}
 use Rattle.fleet_base.specs.Order.{Graph, IsVisit, HasEdge, Before}
 use Rattle.fleet_base.specs.State.{FleetState, arrived_count, duration_of}
-use Rattle.fleet_base.specs.Schedule.{IsSchedule, Obeys, IsLeastSchedule}
-use Rattle.longest_path.specs.Ticks.{tick_in, AreRowsFor}
+use Rattle.fleet_base.specs.Schedule.{IsSchedule, Obeys, IsLeastSchedule, own_tick}
+use Rattle.fleet_base.specs.VisitRows.{tick_in, AreRowsFor}
 use Rattle.longest_path.specs.Kept.{AreSmall}
-use Rattle.longest_path.specs.Earliest.{own_tick}
 use Rattle.longest_path.specs.Cells.{AreAlike}
 use Rattle.longest_path.specs.Extending.{HasOneMore}
 use Rattle.longest_path.specs.Rising.{Marked}

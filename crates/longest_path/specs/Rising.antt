@@ -5,16 +5,12 @@ use Rattle.fleet_base.specs.declared.order.Edge.{Edge}
 use Rattle.fleet_base.specs.declared.order.Side.{Side}
 use Rattle.fleet_base.specs.Order.{Graph, IsVisit, HasEdge, Before}
 use Rattle.fleet_base.specs.State.{FleetState, arrived_count, duration_of}
-use Rattle.fleet_base.specs.Schedule.{IsSchedule, Obeys, ObeysEdge, IsLeastSchedule}
-use Rattle.longest_path.specs.Ticks.{tick_in, AreRowsFor}
+use Rattle.fleet_base.specs.Schedule.{IsSchedule, Obeys, ObeysEdge, IsLeastSchedule, IsBelowAll}
+use Rattle.fleet_base.specs.VisitRows.{tick_in, AreRowsFor}
 use Rattle.longest_path.specs.Cells.{is_marked, mark_count}
 use Rattle.longest_path.specs.Extending.{Reaches, HasOneMore}
 use Rattle.longest_path.specs.Working.{IsWorkFor, IsKeptBy}
 use Rattle.longest_path.specs.declared.work.Work.{Work}
-
--- no schedule that obeys the order has a visit earlier
-abbrev pub IsBelowAll : Graph → FleetState → (ℕ → Option Side) → (Visit → ℕ) → Type 0
-IsBelowAll g x order s = (t : Visit → ℕ) → IsSchedule g x t → Obeys g x order t → (v : Visit) → IsVisit g v → s v ≤ t v
 
 -- the schedule obeys every edge, but for those that begin at a visit that waits to hand its tick on
 abbrev pub ObeysBut : Graph → FleetState → (ℕ → Option Side) → (Visit → ℕ) → (Visit → Type 0) → Type 0

@@ -1,7 +1,7 @@
 -- What a call keeps on the side while it changes ticks.
 use Rattle.std.specs.Prelude.{ℕ, ◌≡◌, List, true, false, if◌then◌else◌}
 use Rattle.fleet_base.specs.declared.geometry.Visit.{Visit}
-use Rattle.longest_path.specs.Ticks.{tick_in}
+use Rattle.fleet_base.specs.VisitRows.{tick_in}
 use Rattle.longest_path.specs.Cells.{put, is_marked, AreAlike}
 use Rattle.longest_path.specs.declared.work.Work.{Work}
 

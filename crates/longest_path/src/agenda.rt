@@ -113,10 +113,8 @@ fn no_marks(alloc: Global, graph: &PlanGraph) -> Result<Items<Items<bool>>, Memo
 {
     let mut marks = Items::new(alloc);
     for robot in 0..graph.robots() {
-        match vec![in alloc; false; graph.last(robot) as usize + 1] {
-            Ok(row) => marks.push(Items::from_vec(row))?,
-            Err(_) => return Err(Memory),
-        }
+        let row = vec![in alloc; false; graph.last(robot) as usize + 1]?;
+        marks.push(Items::from_vec(row))?;
     }
     Ok(marks)
 }
@@ -127,8 +125,5 @@ fn empty_heap(alloc: Global, count: usize) -> Result<BinaryHeap<Waiting>, Memory
     ensures len { IfOk result (λ heap. heap_len heap ≡ 0) }
     ensures room { IfOk result (λ heap. heap_capacity heap ≡ count) }
 {
-    match BinaryHeap::with_capacity(alloc, count) {
-        Ok(heap) => Ok(heap),
-        Err(_) => Err(Memory),
-    }
+    Ok(BinaryHeap::with_capacity(alloc, count)?)
 }

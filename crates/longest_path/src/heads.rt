@@ -5,7 +5,6 @@ ghost use Rattle.fleet_base.specs.declared.order.PairId.{PairId};
 ghost use Rattle.fleet_base.specs.Order.{IsVisit, HasEdge, next_visit, first_visit, second_visit};
 ghost use Rattle.plan_graph.specs.Views.{order_in};
 
-use crate::tails::{first_of, second_of};
 use fleet_base::{Edge, PairId, Side, Visit};
 use plan_graph::{Oriented, PlanGraph};
 
@@ -16,15 +15,7 @@ pub(crate) fn edge_of(graph: &PlanGraph, q: PairId, side: Side) -> Edge
     ensures head { (pair : Pair) → slice_get graph.now.pairs q.0 ≡ Some pair → result.head ≡ second_visit pair side }
 {
     let _within = graph.robots();
-    let pair = graph.pair(q);
-    let first = first_of(pair, side);
-    Edge {
-        tail: Visit {
-            robot: first.robot,
-            index: first.index + 1,
-        },
-        head: second_of(pair, side),
-    }
+    graph.pair(q).edge(side)
 }
 
 /// The pairs that may have an edge from a visit: those of the visit in front of it.

@@ -4,9 +4,10 @@ ghost use Rattle.fleet_base.specs.Order.{IsVisit, HasEdge, IsCyclic, next_visit}
 ghost use Rattle.fleet_base.specs.State.{duration_of};
 ghost use Rattle.fleet_base.specs.Rules.{IsFleetState};
 ghost use Rattle.fleet_base.specs.Schedule.{IsLeastSchedule};
+ghost use Rattle.fleet_base.specs.VisitRows.{tick_in, AreRowsFor};
 ghost use Rattle.plan_graph.specs.Views.{order_in};
 ghost use Rattle.longest_path.specs.Closed.{AgreesOnClosed};
-ghost use Rattle.longest_path.specs.Ticks.{tick_in, schedule_in, AreRowsFor, IsKeptFor};
+ghost use Rattle.longest_path.specs.Ticks.{schedule_in, IsKeptFor};
 ghost use Rattle.longest_path.specs.Kept.{AreSmall};
 ghost use Rattle.longest_path.specs.Cells.{mark_count};
 ghost use Rattle.longest_path.specs.Working.{IsWorkFor, IsIdle, IsKeptBy};

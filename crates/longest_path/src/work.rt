@@ -1,11 +1,11 @@
 ghost use Rattle.std.specs.Prelude.{◌≡◌, ◌<◌, ◌≤◌, ◌+◌, ℕ, List, map, replicate, IfOk};
 ghost use Rattle.fleet_base.specs.declared.geometry.Visit.{Visit};
-ghost use Rattle.longest_path.specs.Ticks.{tick_in, AreRowsFor};
+ghost use Rattle.fleet_base.specs.VisitRows.{tick_in, AreRowsFor};
 ghost use Rattle.longest_path.specs.Cells.{put, HasCell, AreAlike};
 ghost use Rattle.longest_path.specs.Working.{IsWorkFor, IsIdle, IsKeptBy, saved_with, noted};
 
 use crate::agenda::Agenda;
-use crate::ticks::{tick_at, zeros};
+use crate::ticks::tick_at;
 use fleet_base::{Items, Memory, Visit};
 use plan_graph::PlanGraph;
 use std::alloc::Global;
@@ -27,7 +27,7 @@ impl Work {
     {
         let waiting = Agenda::new(alloc, graph)?;
         let raised = Agenda::new(alloc, graph)?;
-        let saved = zeros(alloc, graph)?;
+        let saved = graph.zeros(alloc)?;
         Ok(Work {
             waiting,
             raised,

@@ -8,12 +8,11 @@ use Rattle.fleet_base.specs.declared.order.PairId.{PairId}
 use Rattle.fleet_base.specs.declared.order.Side.{Side}
 use Rattle.fleet_base.specs.declared.order.Side.TheVariants.{Lower, Higher}
 use Rattle.fleet_base.specs.Order.{Graph, IsSoundOrder, order_of, other_side, turned}
-use Rattle.fleet_base.specs.Open.{is_open}
+use Rattle.fleet_base.specs.Open.{is_open, KeepsClosed}
 use Rattle.fleet_base.specs.State.{FleetState}
 use Rattle.fleet_base.specs.Rules.{IsFleetState}
 use Rattle.fleet_base.proofs.Members.{in_cons, in_none}
 use Rattle.fleet_base.proofs.Turning.{turned_or_old}
-use Rattle.cert_tree.specs.Orders.{KeepsClosed}
 use Rattle.order_choice.specs.declared.outcome.Outcome.{Outcome}
 use Rattle.order_choice.specs.Choices.{IsChosen, Choice, AreSwitches}
 use Rattle.longest_path.proofs.LiveLaws.{one_order}

@@ -5,10 +5,9 @@ use Rattle.fleet_base.specs.declared.order.Pair.{Pair}
 use Rattle.fleet_base.specs.declared.order.Side.{Side}
 use Rattle.fleet_base.specs.Order.{Graph, IsSoundOrder, other_side}
 use Rattle.fleet_base.specs.State.{FleetState, order_at}
-use Rattle.fleet_base.specs.Open.{is_open}
+use Rattle.fleet_base.specs.Open.{is_open, KeepsClosed}
 use Rattle.fleet_base.specs.Schedule.{ObeysSide, IsCost, IsLeastSchedule}
 use Rattle.cert_tree.specs.Decisions.{Decision, side_on, order_on, IsFree}
-use Rattle.cert_tree.specs.Orders.{KeepsClosed}
 
 -- the side that a schedule suggests for an undecided pair: the old one if the schedule obeys its edge, else the other one if
 -- it obeys that one's, else the old one

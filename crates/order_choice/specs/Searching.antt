@@ -8,9 +8,9 @@ use Rattle.fleet_base.specs.Order.{Graph, IsCycle, IsSoundOrder}
 use Rattle.fleet_base.specs.State.{FleetState, order_at}
 use Rattle.fleet_base.specs.Schedule.{IsLeastSchedule, IsCost, end_sum_of}
 use Rattle.cert_tree.specs.Decisions.{Decision, order_on, IsFree}
-use Rattle.cert_tree.specs.Orders.{KeepsClosed}
 use Rattle.cert_tree.specs.Trees.{branch_to, force_to}
 use Rattle.fleet_base.specs.Groups.{AreMates}
+use Rattle.fleet_base.specs.Open.{KeepsClosed}
 use Rattle.order_choice.specs.declared.made.Forcing.{Forcing}
 use Rattle.order_choice.specs.declared.made.Stand.{Stand}
 use Rattle.order_choice.specs.declared.made.Stand.TheVariants.{Round, Waiting, Expanded}

@@ -8,6 +8,7 @@ use Rattle.fleet_base.specs.Lists.{Chain, row_of}
 use Rattle.fleet_base.specs.Grid.{OccupancyGrid, is_free, distance, same_cell}
 use Rattle.fleet_base.specs.Plan.{cell_at, no_cell, visits_of, Follows, IsRotation, IsAccepted}
 use Rattle.fleet_base.proofs.PairLaws.{same_cell-refl, same_cell_true}
+use Rattle.fleet_base.specs.Limits.{robot_limit, tick_limit, visit_limit}
 
 -- each number below n passes
 abbrev pub all_below : ℕ → (ℕ → Bool) → Bool
@@ -149,12 +150,12 @@ module _ (grid : OccupancyGrid) (plan : List (List Cell)) (last : ℕ)
       let none = all_below-at (length plan) (λ k. not (follows_test plan s.tick a b && follows_test plan s.tick b k)) (at_pair s.tick a b s.tested ab.here bc.here).1 c there in
       clash _ none (and_from _ _ (follows t a b s bc.here ab) (follows t b c s there bc))
 
-  pub accepted : (1 ≤ length plan) → (length plan ≤ 256) → (last ≤ 4096) → sum_by (λ route. length route) (visits_of plan) ≤ 65536 → IsAccepted grid plan
+  pub accepted : (1 ≤ length plan) → (length plan ≤ robot_limit) → (last ≤ tick_limit) → sum_by (λ route. length route) (visits_of plan) ≤ visit_limit → IsAccepted grid plan
   accepted some few short small = record {
     sound = record { free = free; steps = steps; apart = record { shares = shares; swaps = swaps; rotations = rotations } };
     limits = record {
       robots = (some, few);
-      paths = All-from_get_or (λ (path : List Cell). (1 ≤ length path) × (length path ≤ 4097)) plan [] (λ i h. ((path i h).0, omega (arith, (path i h).1, short)));
+      paths = All-from_get_or (λ (path : List Cell). (1 ≤ length path) × (length path ≤ tick_limit + 1)) plan [] (λ i h. ((path i h).0, omega (arith, (path i h).1, short)));
       visits = small;
     };
   }

@@ -9,13 +9,7 @@ use Rattle.fleet_base.specs.declared.order.Side.{Side}
 use Rattle.fleet_base.specs.Lists.{Chain}
 use Rattle.fleet_base.specs.Order.{Graph, IsVisit, last_in, next_visit, first_visit, second_visit, HasEdge, IsSorted, LeadsTo, IsCycle, IsCyclic}
 use Rattle.fleet_base.proofs.Members.{place_of_element}
-
--- a pair has one edge at most
-pub edge_same : (g : Graph) (order : ℕ → Option Side) (q : ℕ) (u v u' v' : Visit) → HasEdge g order q u v → HasEdge g order q u' v' → (u ≡ u') × (v ≡ v')
-edge_same g order q u v u' v' a b =
-    let pair : a.pair ≡ b.pair = cc (a.listed, b.listed) in
-    let side : a.side ≡ b.side = cc (a.sided, b.sided) in
-    (a.tail ∙ (λ t. next_visit (first_visit (pair t) (side t))) ∙ sym b.tail, a.head ∙ (λ t. second_visit (pair t) (side t)) ∙ sym b.head)
+use Rattle.fleet_base.proofs.Edges.{edge_unique}
 
 module _ (g : Graph) (order : ℕ → Option Side) (list : List Visit) (sorted : IsSorted g order list) where
   -- one place for a visit
@@ -63,8 +57,8 @@ module _ (g : Graph) (order : ℕ → Option Side) (list : List Visit) (sorted :
   -- it stands before the head of the edge to which it leads
   step : (q r a b : ℕ) → LeadsTo g order q r → HeadAt q a → HeadAt r b → a < b
   step q r a b l x y =
-      let head : x.head ≡ l.head = (edge_same g order q x.tail x.head l.tail l.head x.edge l.edge).1 in
-      let next : y.head ≡ l.next_head = (edge_same g order r y.tail y.head l.next_tail l.next_head y.edge l.next_edge).1 in
+      let head : x.head ≡ l.head = (edge_unique g order q x.tail x.head l.tail l.head x.edge l.edge).1 in
+      let next : y.head ≡ l.next_head = (edge_unique g order r y.tail y.head l.next_tail l.next_head y.edge l.next_edge).1 in
       let p = place_of_element list l.next_tail (sorted.each l.next_tail l.there) in
       let lt = sorted.forward p.0 b l.next_tail l.next_head p.2 (y.at ∙ ap Some next) (inr (r, l.next_edge)) in
       let reach : l.head.index + (l.next_tail.index - l.head.index) ≡ l.next_tail.index = omega (arith, l.onward) in

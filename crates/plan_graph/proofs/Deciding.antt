@@ -13,13 +13,15 @@ use Rattle.fleet_base.specs.Pairs.{same_visit, numbers_of}
 use Rattle.fleet_base.specs.Order.{Graph, IsGraph, IsVisit, last_in, next_visit, first_visit, second_visit, HasEdge, IsSorted, IsCycle, IsCyclic}
 use Rattle.fleet_base.proofs.Members.{head_in, tail_in, in_cons, in_none}
 use Rattle.fleet_base.proofs.Sorting.{all_different}
+use Rattle.fleet_base.proofs.Places.{same_visit_is, same_visit-refl}
+use Rattle.fleet_base.proofs.Edges.{edge_unique}
 use Rattle.plan_graph.specs.declared.work.Waiting.{Waiting}
 use Rattle.plan_graph.specs.Limits.{visit_count}
-use Rattle.plan_graph.proofs.Numbers.{same_visit-true, same_visit-refl, edge_numbered}
+use Rattle.plan_graph.proofs.Numbers.{edge_numbered}
 use Rattle.plan_graph.specs.Listing.{front, IsListing, IsPassed, IsFree, IsBlocked, Waits, robots_of, IsWorking}
 use Rattle.plan_graph.proofs.Listing.{nothing_listed, fewer_listed, complete, list_next}
 use Rattle.plan_graph.proofs.Waits.{distinct_from, blocked_differs, awaited_there, few_wait, trail_begin, cycle_of}
-use Rattle.plan_graph.proofs.Cycles.{edge_same, cycle_refutes}
+use Rattle.plan_graph.proofs.Cycles.{cycle_refutes}
 
 module _ (g : Graph) (order : ℕ → Option Side) where
   -- where no pair of a visit holds it back, it is free
@@ -89,7 +91,7 @@ module _ (g : Graph) (order : ℕ → Option Side) where
   edge_into q v = pair_case (slice_get g.pairs q) refl
     where
       same_case : (p : Pair) (side : Side) → slice_get g.pairs q ≡ Some p → order q ≡ Some side → (b : Bool) → same_visit v (second_visit p side) ≡ b → ((u : Visit) × HasEdge g order q u v) ⊎ ((u : Visit) → HasEdge g order q u v → ⊥)
-      same_case p side ep es true t = inl (next_visit (first_visit p side), record { pair = p; side = side; listed = ep; sided = es; tail = refl; head = same_visit-true v (second_visit p side) t })
+      same_case p side ep es true t = inl (next_visit (first_visit p side), record { pair = p; side = side; listed = ep; sided = es; tail = refl; head = same_visit_is v (second_visit p side) t })
       same_case p side ep es false t = inr (λ u e. no e)
         where
           no : {u : Visit} → HasEdge g order q u v → ⊥
@@ -127,12 +129,12 @@ module _ (g : Graph) (order : ℕ → Option Side) where
   passed_or_blocked listed i here q = edge_case (edge_into q.0 (front listed i))
     where
       listed_case : (u : Visit) → HasEdge g order q.0 u (front listed i) → IsVisit g u → (u.index < get_or listed u.robot 0) ⊎ (get_or listed u.robot 0 ≤ u.index) → IsPassed g order listed (front listed i) q ⊎ ((j : ℕ) × IsBlocked g order listed i q j)
-      listed_case u e there (inl lt) = inl (λ w f k. subst (λ (x : Visit). x.index < get_or listed x.robot 0) (edge_same g order q.0 u (front listed i) w (front listed i) e f).0 lt)
+      listed_case u e there (inl lt) = inl (λ w f k. subst (λ (x : Visit). x.index < get_or listed x.robot 0) (edge_unique g order q.0 u (front listed i) w (front listed i) e f).0 lt)
       listed_case u e there (inr ge) = inr (u.robot, record { tail = u; edge = e; here = here; there = there; robot = refl; unlisted = ge })
 
       there_case : (u : Visit) → HasEdge g order q.0 u (front listed i) → IsVisit g u ⊎ (IsVisit g u → ⊥) → IsPassed g order listed (front listed i) q ⊎ ((j : ℕ) × IsBlocked g order listed i q j)
       there_case u e (inl there) = listed_case u e there (cases_lt u.index (get_or listed u.robot 0))
-      there_case u e (inr not) = inl (λ w f k. absurd (not (subst (λ (x : Visit). IsVisit g x) (edge_same g order q.0 w (front listed i) u (front listed i) f e).0 k)))
+      there_case u e (inr not) = inl (λ w f k. absurd (not (subst (λ (x : Visit). IsVisit g x) (edge_unique g order q.0 w (front listed i) u (front listed i) f e).0 k)))
 
       edge_case : ((u : Visit) × HasEdge g order q.0 u (front listed i)) ⊎ ((u : Visit) → HasEdge g order q.0 u (front listed i) → ⊥) → IsPassed g order listed (front listed i) q ⊎ ((j : ℕ) × IsBlocked g order listed i q j)
       edge_case (inl e) = there_case e.0 e.1 (visit_or_none e.0)

@@ -11,41 +11,27 @@ use Rattle.fleet_base.specs.Pairs.{same_visit, numbers_from, numbers_of}
 use Rattle.fleet_base.specs.Order.{Graph, HasEdge, second_visit}
 use Rattle.std.proofs.lemmas.Option.{slice_get_within}
 use Rattle.fleet_base.proofs.Members.{head_in, tail_in, in_cons, in_none, element_at, place_of_element}
+use Rattle.fleet_base.proofs.PairNumbers.{is_of, number}
+use Rattle.fleet_base.proofs.Places.{same_visit-refl}
 
-abbrev number : ℕ → PairId
-number q = record { 0 = q }
-
-pub same_visit-true : (u v : Visit) → same_visit u v ≡ true → u ≡ v
-same_visit-true u v h =
-    let robots = eqb-true u.robot v.robot (and_parts (u.robot == v.robot) (u.index == v.index) h).0 in
-    let indices = eqb-true u.index v.index (and_parts (u.robot == v.robot) (u.index == v.index) h).1 in
-    λ i. record { robot = robots i; index = indices i }
-
-pub same_visit-refl : (u : Visit) → same_visit u u ≡ true
-same_visit-refl u = and_from _ _ (eq-eqb u.robot u.robot refl) (eq-eqb u.index u.index refl)
-
--- whether a visit stands in a pair
-abbrev pub stands_in : Pair → Visit → Bool
-stands_in p v = same_visit p.lower v || same_visit p.higher v
-
-in_numbers_from : (first : ℕ) (pairs : List Pair) (v : Visit) (k : ℕ) (p : Pair) → slice_get pairs k ≡ Some p → stands_in p v ≡ true → Contains (numbers_from first pairs v) (number (first + k))
+in_numbers_from : (first : ℕ) (pairs : List Pair) (v : Visit) (k : ℕ) (p : Pair) → slice_get pairs k ≡ Some p → is_of p v ≡ true → Contains (numbers_from first pairs v) (number (first + k))
 in_numbers_from first [] v k p e t = cc
 in_numbers_from first (p' ∷ ps) v zero p e t =
     let same : p' ≡ p = cc in
-    let t' : stands_in p' v ≡ true = subst (λ (r : Pair). stands_in r v ≡ true) (sym same) t in
+    let t' : is_of p' v ≡ true = subst (λ (r : Pair). is_of r v ≡ true) (sym same) t in
     let n : number first ≡ number (first + 0) = ap number (omega arith) in
     subst (λ (b : Bool). Contains (cond b (number first ∷ numbers_from (first + 1) ps v) (numbers_from (first + 1) ps v)) (number (first + 0))) (sym t')
     (subst (λ (r : PairId). Contains (number first ∷ numbers_from (first + 1) ps v) r) n (head_in (number first) (numbers_from (first + 1) ps v)))
 in_numbers_from first (p' ∷ ps) v (suc k) p e t =
     let n : number ((first + 1) + k) ≡ number (first + suc k) = ap number (omega arith) in
-    go (stands_in p' v) (subst (λ (r : PairId). Contains (numbers_from (first + 1) ps v) r) n (in_numbers_from (first + 1) ps v k p e t))
+    go (is_of p' v) (subst (λ (r : PairId). Contains (numbers_from (first + 1) ps v) r) n (in_numbers_from (first + 1) ps v k p e t))
   where
     go : (b : Bool) → Contains (numbers_from (first + 1) ps v) (number (first + suc k)) → Contains (cond b (number first ∷ numbers_from (first + 1) ps v) (numbers_from (first + 1) ps v)) (number (first + suc k))
     go true h = tail_in (number first) (numbers_from (first + 1) ps v) _ h
     go false h = h
 
 -- a pair in which the visit stands has its number among those of the visit
-pub in_numbers : (pairs : List Pair) (v : Visit) (q : ℕ) (p : Pair) → slice_get pairs q ≡ Some p → stands_in p v ≡ true → Contains (numbers_of pairs v) (number q)
+pub in_numbers : (pairs : List Pair) (v : Visit) (q : ℕ) (p : Pair) → slice_get pairs q ≡ Some p → is_of p v ≡ true → Contains (numbers_of pairs v) (number q)
 in_numbers pairs v q p e t =
     let n : number (0 + q) ≡ number q = ap number (omega arith) in
     subst (λ (r : PairId). Contains (numbers_of pairs v) r) n (in_numbers_from 0 pairs v q p e t)
@@ -56,20 +42,20 @@ pub record IsNumbered (first : ℕ) (pairs : List Pair) (v : Visit) (r : PairId)
   pub pair : Pair
   pub number : r.0 ≡ first + place
   pub listed : slice_get pairs place ≡ Some pair
-  pub stands : stands_in pair v ≡ true
+  pub stands : is_of pair v ≡ true
 
 from_numbers_from : (first : ℕ) (pairs : List Pair) (v : Visit) (r : PairId) → Contains (numbers_from first pairs v) r → IsNumbered first pairs v r
 from_numbers_from first [] v r h = absurd (in_none r h)
-from_numbers_from first (p ∷ ps) v r h = go (stands_in p v) refl h (from_numbers_from (first + 1) ps v r)
+from_numbers_from first (p ∷ ps) v r h = go (is_of p v) refl h (from_numbers_from (first + 1) ps v r)
   where
     later : IsNumbered (first + 1) ps v r → IsNumbered first (p ∷ ps) v r
     later n = record { place = suc n.place; pair = n.pair; number = omega (arith, n.number); listed = n.listed; stands = n.stands }
 
-    here : stands_in p v ≡ true → (number first ≡ r) ⊎ Contains (numbers_from (first + 1) ps v) r → (Contains (numbers_from (first + 1) ps v) r → IsNumbered (first + 1) ps v r) → IsNumbered first (p ∷ ps) v r
+    here : is_of p v ≡ true → (number first ≡ r) ⊎ Contains (numbers_from (first + 1) ps v) r → (Contains (numbers_from (first + 1) ps v) r → IsNumbered (first + 1) ps v r) → IsNumbered first (p ∷ ps) v r
     here t (inl e) rest = record { place = 0; pair = p; number = omega (arith, ap (λ (n : PairId). n.0) e); listed = refl; stands = t }
     here t (inr k) rest = later (rest k)
 
-    go : (b : Bool) → stands_in p v ≡ b → Contains (cond b (number first ∷ numbers_from (first + 1) ps v) (numbers_from (first + 1) ps v)) r → (Contains (numbers_from (first + 1) ps v) r → IsNumbered (first + 1) ps v r) → IsNumbered first (p ∷ ps) v r
+    go : (b : Bool) → is_of p v ≡ b → Contains (cond b (number first ∷ numbers_from (first + 1) ps v) (numbers_from (first + 1) ps v)) r → (Contains (numbers_from (first + 1) ps v) r → IsNumbered (first + 1) ps v r) → IsNumbered first (p ∷ ps) v r
     go true t k rest = here t (in_cons (number first) (numbers_from (first + 1) ps v) r k) rest
     go false t k rest = later (rest k)
 
@@ -77,14 +63,14 @@ pub from_numbers : (pairs : List Pair) (v : Visit) (r : PairId) → Contains (nu
 from_numbers pairs v r h = from_numbers_from 0 pairs v r h
 
 -- the second visit of a pair stands in it
-pub second_stands : (p : Pair) (side : Side) → stands_in p (second_visit p side) ≡ true
+pub second_stands : (p : Pair) (side : Side) → is_of p (second_visit p side) ≡ true
 second_stands p Lower = or_right _ _ (same_visit-refl p.higher)
 second_stands p Higher = or_left _ _ (same_visit-refl p.lower)
 
 -- an edge into a visit is that of one of its pairs
 pub edge_numbered : (g : Graph) (order : ℕ → Option Side) (q : ℕ) (u v : Visit) → HasEdge g order q u v → Contains (numbers_of g.pairs v) (number q)
 edge_numbered g order q u v e =
-    in_numbers g.pairs v q e.pair e.listed (subst (λ (w : Visit). stands_in e.pair w ≡ true) (sym e.head) (second_stands e.pair e.side))
+    in_numbers g.pairs v q e.pair e.listed (subst (λ (w : Visit). is_of e.pair w ≡ true) (sym e.head) (second_stands e.pair e.side))
 
 -- each number of the visit is that of a pair
 pub numbers_within : (pairs : List Pair) (v : Visit) (k : ℕ) (q : PairId) → slice_get (numbers_of pairs v) k ≡ Some q → q.0 < length pairs

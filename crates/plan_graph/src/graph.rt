@@ -1,9 +1,10 @@
 ghost use Rattle.std.specs.Prelude.{◌≡◌, ◌<◌, ◌↔◌, length, slice_get, Some, IsTrue, IfOk};
 ghost use Rattle.fleet_base.specs.Pairs.{pairs_of, numbers_of};
 ghost use Rattle.fleet_base.specs.Order.{IsGraph, IsVisit, graph_of, last_in};
-ghost use Rattle.plan_graph.specs.Limits.{IsPlanGraph, IsWithinLimits, visit_count};
+ghost use Rattle.fleet_base.specs.VisitRows.{zero_rows};
+ghost use Rattle.plan_graph.specs.Limits.{IsPlanGraph, visit_count, IsGraphWithinLimits};
 
-use fleet_base::{Memory, Pair, PairId, PairTable, SoundPlan, Visit};
+use fleet_base::{Items, Memory, Pair, PairId, PairTable, SoundPlan, Visit};
 use std::alloc::Global;
 use std::marker::Model;
 
@@ -46,7 +47,7 @@ impl PlanGraph {
         ensures count { result ≡ length self.now.lasts }
         ensures plan { IsPlanGraph self.now }
         ensures graph { IsGraph self.now }
-        ensures limits { IsWithinLimits self.now }
+        ensures limits { IsGraphWithinLimits self.now }
     {
         self.lasts.len() as u32
     }
@@ -78,6 +79,13 @@ impl PlanGraph {
         count
     }
 
+    /// A 0 for each visit.
+    pub fn zeros(&self, alloc: Global) -> Result<Items<Items<u64>>, Memory>
+        ensures { IfOk result (λ rows. rows ≡ zero_rows self.now.lasts) }
+    {
+        Items::zeros(alloc, &self.lasts)
+    }
+
     /// The number of pairs.
     pub fn pair_count(&self) -> u32
         ensures { result ≡ length self.now.pairs }
@@ -107,7 +115,7 @@ fn lasts_of(alloc: Global, plan: &SoundPlan) -> Result<Vec<u32>, Memory>
 {
     let mut lasts = Vec::new(alloc);
     for robot in 0..plan.robots() {
-        lasts.push(plan.last(robot)).map_err(|_| Memory)?;
+        lasts.push(plan.last(robot))?;
     }
     Ok(lasts)
 }

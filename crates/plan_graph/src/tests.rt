@@ -1,6 +1,7 @@
 ghost use Rattle.std.specs.Prelude.{◌≡◌, ◌≤◌, map, length, IfOk};
 ghost use Rattle.fleet_base.specs.Plan.{IsAccepted, visits_of};
 ghost use Rattle.fleet_base.specs.Pairs.{pairs_of};
+ghost use Rattle.fleet_base.specs.Limits.{pair_limit};
 
 use crate::{PlanGraph, RankRoom, Ranked, rank};
 use fleet_base::{Cell, Grid, Memory, Pair, PairId, PairTable, RawPlan, Side, SoundPlan, Visit};
@@ -29,7 +30,7 @@ fn path_of(alloc: Global, path: &[(u32, u32)]) -> Result<Vec<Cell>, Memory>
             row: at.0,
             col: at.1,
         };
-        cells.push(cell).map_err(|_| Memory)?;
+        cells.push(cell)?;
     }
     Ok(cells)
 }
@@ -55,7 +56,7 @@ fn pairs_from(alloc: Global, rows: &[((u32, u32), (u32, u32), Side)]) -> Result<
             higher: visit(row.1),
             first: row.2,
         };
-        pairs.push(pair).map_err(|_| Memory)?;
+        pairs.push(pair)?;
     }
     Ok(pairs)
 }
@@ -70,7 +71,7 @@ fn graph_of(
     requires accepted { IsAccepted grid.now (map (λ path. map (λ at. record { row = at.0; col = at.1 }) path.now) paths.now) }
     requires pairs { map (λ row. record { lower = record { robot = row.0.0; index = row.0.1 }; higher = record { robot = row.1.0; index = row.1.1 }; first = row.2 }) rows.now
         ≡ pairs_of (visits_of (map (λ path. map (λ at. record { row = at.0; col = at.1 }) path.now) paths.now)) }
-    requires few { length rows.now ≤ 1048576 }
+    requires few { length rows.now ≤ pair_limit }
 {
     let plan = SoundPlan::from_raw(alloc, grid, &raw_of(alloc, paths)?)?;
     let table = PairTable::from_list(alloc, &plan, &pairs_from(alloc, rows)?)?;
@@ -81,7 +82,7 @@ fn graph_of(
 fn grid_of(alloc: Global, height: u32, width: u32, free: &[bool]) -> Result<Grid, Memory>
     ensures { IfOk result (λ grid. grid ≡ record { height = height; width = width; free = free.now }) }
 {
-    let free = Vec::from_slice(alloc, free).map_err(|_| Memory)?;
+    let free = Vec::from_slice(alloc, free)?;
     Grid::new(height, width, free).ok_or(Memory)
 }
 

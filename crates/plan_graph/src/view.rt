@@ -32,7 +32,7 @@ impl PlanGraph {
     pub fn orient<'g>(&'g self, alloc: Global) -> Result<Oriented<'g>, Memory>
         ensures { IfOk result (λ view. view ≡ record { graph = self.now; sides = undecided self.now }) }
     {
-        let sides = Vec::from_elem(alloc, None, self.pair_count() as usize).map_err(|_| Memory)?;
+        let sides = Vec::from_elem(alloc, None, self.pair_count() as usize)?;
         Ok(Oriented { graph: self, sides })
     }
 }
@@ -103,17 +103,8 @@ impl<'g> Oriented<'g> {
         let side = self.side(q)?;
         let pair = self.graph.pair(q);
         let _within = self.graph.robots();
-        let (first, second) = match side {
-            Side::Lower => (pair.lower, pair.higher),
-            Side::Higher => (pair.higher, pair.lower),
-        };
-        if second != v {
-            return None;
-        }
-        Some(Visit {
-            robot: first.robot,
-            index: first.index + 1,
-        })
+        let edge = pair.edge(side);
+        (edge.head == v).then_some(edge.tail)
     }
 }
 

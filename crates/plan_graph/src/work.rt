@@ -52,12 +52,12 @@ impl Work {
         let robots = graph.robots() as usize;
         let visits = graph.visit_count() as usize;
         Ok(Work {
-            order: Vec::with_capacity(alloc, visits).map_err(|_| Memory)?,
-            cycle: Vec::with_capacity(alloc, robots).map_err(|_| Memory)?,
-            listed: Vec::from_elem(alloc, 0, robots).map_err(|_| Memory)?,
-            passed: Vec::from_elem(alloc, 0, robots).map_err(|_| Memory)?,
-            waiting: Vec::with_capacity(alloc, robots).map_err(|_| Memory)?,
-            place: Vec::from_elem(alloc, 0, robots).map_err(|_| Memory)?,
+            order: Vec::with_capacity(alloc, visits)?,
+            cycle: Vec::with_capacity(alloc, robots)?,
+            listed: Vec::from_elem(alloc, 0, robots)?,
+            passed: Vec::from_elem(alloc, 0, robots)?,
+            waiting: Vec::with_capacity(alloc, robots)?,
+            place: Vec::from_elem(alloc, 0, robots)?,
         })
     }
 

@@ -27,10 +27,9 @@ impl Out {
         ensures { IfOk result (λ out. out ≡ record { list = []; room = visit_count graph.now }) }
     {
         let room = graph.visit_count() as usize;
-        match Vec::with_capacity(alloc, room) {
-            Ok(found) => Ok(Out { found }),
-            Err(_) => Err(Memory),
-        }
+        Ok(Out {
+            found: Vec::with_capacity(alloc, room)?,
+        })
     }
 
     /// The visits that were found last, by robot, then by index.

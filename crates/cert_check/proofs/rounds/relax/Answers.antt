@@ -1,9 +1,10 @@
 use Rattle.std.proofs.Common.{◌+◌, ◌*◌, ◌∙◌, subst, arith}
 use Rattle.cert_check.specs.Sides.{order_by}
-use Rattle.cert_check.specs.Rounds.{ticks_of, RaisesAll}
+use Rattle.cert_check.specs.Rounds.{RaisesAll}
 use Rattle.cert_check.proofs.SideLaws.{keeps}
 use Rattle.cert_check.proofs.RoundLaws.{has_ticks_kept, relaxing_more, relaxing_done, relaxing_ends}
 use Rattle.cert_check.proofs.rounds.relax.Goals as goal
+use Rattle.fleet_base.specs.VisitRows.{tick_in}
 
 pub raise_all-requires-clause-ticks : goal.raise_all-requires-clause-ticks
 raise_all-requires-clause-ticks c = has_ticks_kept c.args.graph.now c.args.ticks.now _ c.requires.ticks c.loop-round.invariant.1
@@ -13,8 +14,8 @@ returns-then-not-raise_all-clause-least c =
     let g = c.args.graph.now in
     let x = c.args.fleet.now in
     let order = order_by g x c.args.sides.now in
-    let one = subst (λ b. RaisesAll g x order (ticks_of c.loop-round.ticks) (ticks_of c.raise_all.new.ticks) b) c.if-not-raise_all.true c.raise_all.ensures.raises in
-    λ e. relaxing_done g x order c.requires.state (keeps g x c.args.sides.now) c.loop-round._round (ticks_of c.loop-round.ticks) (ticks_of c.raise_all.new.ticks) c.loop-round.invariant.0 one
+    let one = subst (λ b. RaisesAll g x order (tick_in c.loop-round.ticks) (tick_in c.raise_all.new.ticks) b) c.if-not-raise_all.true c.raise_all.ensures.raises in
+    λ e. relaxing_done g x order c.requires.state (keeps g x c.args.sides.now) c.loop-round._round (tick_in c.loop-round.ticks) (tick_in c.raise_all.new.ticks) c.loop-round.invariant.0 one
 
 pub returns-then-not-raise_all-clause-bound : goal.returns-then-not-raise_all-clause-bound
 returns-then-not-raise_all-clause-bound c =
@@ -25,11 +26,11 @@ loop-round-preserved c =
     let g = c.args.graph.now in
     let x = c.args.fleet.now in
     let order = order_by g x c.args.sides.now in
-    let one = subst (λ b. RaisesAll g x order (ticks_of c.loop-round.ticks) (ticks_of c.raise_all.new.ticks) b) c.if-not-raise_all.false c.raise_all.ensures.raises in
-    (relaxing_more g x order c.requires.state c.loop-round._round (ticks_of c.loop-round.ticks) (ticks_of c.raise_all.new.ticks) c.loop-round.invariant.0 one, c.raise_all.ensures.rows ∙ c.loop-round.invariant.1)
+    let one = subst (λ b. RaisesAll g x order (tick_in c.loop-round.ticks) (tick_in c.raise_all.new.ticks) b) c.if-not-raise_all.false c.raise_all.ensures.raises in
+    (relaxing_more g x order c.requires.state c.loop-round._round (tick_in c.loop-round.ticks) (tick_in c.raise_all.new.ticks) c.loop-round.invariant.0 one, c.raise_all.ensures.rows ∙ c.loop-round.invariant.1)
 
 pub returns-clause-cyclic : goal.returns-clause-cyclic
 returns-clause-cyclic c =
     let g = c.args.graph.now in
     let x = c.args.fleet.now in
-    λ e list sorted. relaxing_ends g x (order_by g x c.args.sides.now) c.requires.state c.loop-round._round (ticks_of c.loop-round.ticks) c.loop-round.invariant.0 (omega (arith, c.loop-round-test.false, c.visit_count-round-end.ensures)) list sorted
+    λ e list sorted. relaxing_ends g x (order_by g x c.args.sides.now) c.requires.state c.loop-round._round (tick_in c.loop-round.ticks) c.loop-round.invariant.0 (omega (arith, c.loop-round-test.false, c.visit_count-round-end.ensures)) list sorted

@@ -31,7 +31,7 @@ loop-index-init c =
 pub set_in-requires-in-loop-index-clause-at : goal.set_in-requires-in-loop-index-clause-at
 set_in-requires-in-loop-index-clause-at c =
     let same = row_len c.loop-index.sums c.args.sums.now c.args.robot c.loop-index.invariant.rows in
-    let at = ap (λ (v : Visit). v.index) c.following-next.ensures in
+    let at = ap (λ (v : Visit). v.index) c.next-next.ensures in
     omega (arith, same, at, c.requires.rows.visits c.args.robot c.requires.robot, c.loop-index-test.true, c.last-index-end.ensures)
 
 pub loop-index-preserved : goal.loop-index-preserved
@@ -40,13 +40,13 @@ loop-index-preserved c =
     let i = c.args.robot in
     let n = c.loop-index.index in
     let sum = c.loop-index.sum + c.duration-sum.result in
-    let at = ap (λ (v : Visit). v.index) c.following-next.ensures in
+    let at = ap (λ (v : Visit). v.index) c.next-next.ensures in
     let is = c.set_in-in-loop-index.ensures ∙ ap (λ k. set rows i (set (row_of rows i) k sum)) at in
     let same = row_len rows c.args.sums.now i c.loop-index.invariant.rows in
     let inside : i < length rows = omega (arith, same_rows rows c.args.sums.now c.loop-index.invariant.rows, c.requires.rows.robots, c.requires.robot) in
     let there : n + 1 < length (row_of rows i) = omega (arith, same, c.requires.rows.visits i c.requires.robot, c.loop-index-test.true, c.last-index-end.ensures) in
     let more = travel_more c.args.fleet.now (first_of i) n (omega arith) in
-    let one = c.duration-sum.ensures ∙ ap (λ (v : Visit). duration_of c.args.fleet.now v) c.following-next.ensures in
+    let one = c.duration-sum.ensures ∙ ap (λ (v : Visit). duration_of c.args.fleet.now v) c.next-next.ensures in
     let delay = c.requires.state.delays (visit i (n + 1)) in
     let total : sum ≡ travel c.args.fleet.now (first_of i) (n + 1) = omega (arith, c.loop-index.invariant.sum, more, one) in
     record {

@@ -1,8 +1,9 @@
 use Rattle.std.proofs.Common.{map}
 use Rattle.std.specs.Prelude.{codes}
 use Rattle.std.proofs.lemmas.Result.{err_from_is_err_and}
-use Rattle.cert_tree.specs.CertText.{text_of_lines, path_line}
+use Rattle.cert_tree.specs.CertText.{path_line}
 use Rattle.fleet_base.proofs.Appending.{front_first}
+use Rattle.fleet_base.specs.Bytes.{text_of_lines}
 use Rattle.cert_tree.proofs.writer.push_bound.Goals as goal
 
 pub returns-in_err-push_bytes-clause-err : goal.returns-in_err-push_bytes-clause-err

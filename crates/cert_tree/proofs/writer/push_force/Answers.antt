@@ -3,8 +3,7 @@ use Rattle.std.specs.Prelude.{codes}
 use Rattle.std.proofs.lemmas.Result.{err_from_is_err_and, on_err_weaker}
 use Rattle.fleet_base.specs.Bytes.{field, AppendsFront}
 use Rattle.cert_tree.specs.CertText.{pair_fields, side_word}
-use Rattle.fleet_base.proofs.Appending.{front_first, front_behind}
-use Rattle.cert_tree.proofs.Appending.{both}
+use Rattle.fleet_base.proofs.Appending.{front_first, front_behind, both}
 use Rattle.cert_tree.proofs.writer.push_force.Goals as goal
 
 pub returns-in_err-push_words-clause-err : goal.returns-in_err-push_words-clause-err

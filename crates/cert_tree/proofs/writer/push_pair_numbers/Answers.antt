@@ -5,7 +5,7 @@ use Rattle.std.proofs.lemmas.List.Elements.{All-more}
 use Rattle.std.proofs.lemmas.Result.{err_from_is_err_and}
 use Rattle.fleet_base.specs.declared.order.PairId.{PairId}
 use Rattle.fleet_base.specs.Bytes.{field}
-use Rattle.cert_tree.proofs.Appending.{pieces_left}
+use Rattle.fleet_base.proofs.Appending.{pieces_left}
 use Rattle.cert_tree.proofs.writer.push_pair_numbers.Goals as goal
 
 pub returns-in_err-push_field-clause-err : goal.returns-in_err-push_field-clause-err

@@ -6,7 +6,8 @@ use Rattle.std.proofs.lemmas.Result.{err_from_is_err_and}
 use Rattle.cert_tree.specs.declared.node.CertPath.{CertPath}
 use Rattle.cert_tree.specs.CertText.{path_line}
 use Rattle.fleet_base.specs.Bytes.{AppendsFront}
-use Rattle.cert_tree.proofs.Appending.{pieces_left, text_by_paths}
+use Rattle.fleet_base.proofs.Appending.{pieces_left}
+use Rattle.cert_tree.proofs.Appending.{text_by_paths}
 use Rattle.cert_tree.proofs.writer.push_paths.Goals as goal
 
 pub returns-in_err-push_path-clause-err : goal.returns-in_err-push_path-clause-err

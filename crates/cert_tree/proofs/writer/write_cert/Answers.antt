@@ -7,9 +7,10 @@ use Rattle.cert_tree.specs.CertText.{HasNumbers}
 use Rattle.cert_tree.proofs.WrittenText.{written_is_read}
 use Rattle.std.proofs.lemmas.Result.{err_from_is_err_and}
 use Rattle.cert_tree.specs.declared.node.Node.{Node}
-use Rattle.cert_tree.specs.CertText.{node_lines, text_of_lines}
-use Rattle.fleet_base.specs.Bytes.{AppendsFront}
-use Rattle.cert_tree.proofs.Appending.{pieces_left, text_by_nodes}
+use Rattle.cert_tree.specs.CertText.{node_lines}
+use Rattle.fleet_base.specs.Bytes.{AppendsFront, text_of_lines}
+use Rattle.fleet_base.proofs.Appending.{pieces_left}
+use Rattle.cert_tree.proofs.Appending.{text_by_nodes}
 use Rattle.cert_tree.proofs.writer.write_cert.Goals as goal
 
 pub returns-in_err-push_node-clause-err : goal.returns-in_err-push_node-clause-err

@@ -2,10 +2,10 @@ use Rattle.std.proofs.Common.{ℕ, ◌≡◌, ◌≢◌, ◌⊎◌, ◌+◌, ◌
 use Rattle.fleet_base.specs.declared.geometry.Visit.{Visit}
 use Rattle.fleet_base.specs.Order.{Graph, IsVisit, Before, next_visit}
 use Rattle.fleet_base.specs.State.{duration_of}
-use Rattle.plan_graph.specs.Limits.{IsWithinLimits}
+use Rattle.fleet_base.specs.VisitRows.{tick_in}
 use Rattle.plan_graph.specs.Views.{order_in}
+use Rattle.plan_graph.specs.Limits.{IsGraphWithinLimits}
 use Rattle.longest_path.specs.Earliest.{IsEarliestAhead}
-use Rattle.longest_path.specs.Ticks.{tick_in}
 use Rattle.longest_path.specs.Cells.{put, mark_count}
 use Rattle.longest_path.specs.Rising.{Marked}
 use Rattle.longest_path.specs.Falling.{IsFalling, tick_total}
@@ -67,5 +67,5 @@ returns-clause-less c =
     (λ is t. c.wake_along.ensures.woken is (t ∙ ap (λ n. n + duration_of x (next_visit v)) (sym before)))
     c.wake_across.ensures.waking.stays
     (λ q w h t. c.wake_across.ensures.woken q w h (t ∙ ap (λ n. n + duration_of x w) (sym before))) in
-    let limits = subst (λ (h : Graph). IsWithinLimits h) c.graph.ensures c.robots-within.ensures.limits in
+    let limits = subst (λ (h : Graph). IsGraphWithinLimits h) c.graph.ensures c.robots-within.ensures.limits in
     subst (λ (r : List (List ℕ)). mark_count more + 65537 * tick_total r ≤ mark_count marks + 65537 * tick_total rows) (sym c.set_in.ensures) (falling_less g x c.requires.state order c.requires.closed rows marks v c.requires.there f m e ne more waking woken limits)

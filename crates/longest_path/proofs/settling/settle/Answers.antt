@@ -1,8 +1,8 @@
 use Rattle.std.proofs.Common.{ℕ, ◌≡◌, ◌⊎◌, ◌+◌, ◌*◌, ◌<◌, ◌≤◌, List, Bool, sym, ap, ◌∙◌, subst, arith}
 use Rattle.fleet_base.specs.declared.geometry.Visit.{Visit}
 use Rattle.fleet_base.specs.Order.{IsVisit}
+use Rattle.fleet_base.specs.VisitRows.{tick_in}
 use Rattle.plan_graph.specs.Views.{order_in}
-use Rattle.longest_path.specs.Ticks.{tick_in}
 use Rattle.longest_path.specs.Cells.{HasCell, put, mark_count}
 use Rattle.longest_path.specs.Rising.{Marked}
 use Rattle.longest_path.specs.Falling.{IsFalling}

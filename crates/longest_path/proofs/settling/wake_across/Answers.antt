@@ -5,8 +5,8 @@ use Rattle.fleet_base.specs.declared.order.PairId.{PairId}
 use Rattle.fleet_base.specs.Order.{HasEdge, IsVisit}
 use Rattle.fleet_base.specs.State.{duration_of}
 use Rattle.fleet_base.proofs.Edges.{edge_unique}
+use Rattle.fleet_base.specs.VisitRows.{tick_in}
 use Rattle.plan_graph.specs.Views.{order_in}
-use Rattle.longest_path.specs.Ticks.{tick_in}
 use Rattle.longest_path.specs.Rising.{Marked}
 use Rattle.longest_path.specs.Falling.{IsWaking}
 use Rattle.longest_path.proofs.Places.{read_at}

@@ -1,8 +1,8 @@
 use Rattle.std.proofs.Common.{ℕ, ◌≡◌, ◌+◌, ◌<◌, ◌≤◌, List, Bool, sym, ap, ◌∙◌, subst, refl, inl, arith}
 use Rattle.fleet_base.specs.Order.{Graph, IsVisit, last_in, next_visit}
 use Rattle.fleet_base.specs.State.{duration_of}
+use Rattle.fleet_base.specs.VisitRows.{tick_in}
 use Rattle.plan_graph.specs.Views.{order_in}
-use Rattle.longest_path.specs.Ticks.{tick_in}
 use Rattle.longest_path.proofs.Falling.{waking_begins, waking_next}
 use Rattle.longest_path.proofs.settling.wake_along.Goals as goal
 

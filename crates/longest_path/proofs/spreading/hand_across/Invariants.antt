@@ -1,8 +1,8 @@
 use Rattle.plan_graph.specs.Views.{order_in}
-use Rattle.longest_path.specs.Ticks.{tick_in}
 use Rattle.longest_path.specs.Rising.{IsHanding}
 use Rattle.longest_path.proofs.Handing.{AreObeyed}
 use Rattle.longest_path.proofs.spreading.hand_across.Given as goal
+use Rattle.fleet_base.specs.VisitRows.{tick_in}
 
 abbrev pub invariant-loop-q : goal.invariant-loop-q
 invariant-loop-q l = record {

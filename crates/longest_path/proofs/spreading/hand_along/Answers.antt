@@ -1,8 +1,8 @@
 use Rattle.std.proofs.Common.{ℕ, ◌≡◌, ◌+◌, ◌<◌, ◌≤◌, sym, ap, ◌∙◌, subst, refl, inl, arith}
 use Rattle.fleet_base.specs.Order.{Graph, IsVisit, last_in, next_visit}
 use Rattle.fleet_base.specs.State.{duration_of}
+use Rattle.fleet_base.specs.VisitRows.{tick_in}
 use Rattle.plan_graph.specs.Views.{order_in}
-use Rattle.longest_path.specs.Ticks.{tick_in}
 use Rattle.longest_path.specs.Working.{noted}
 use Rattle.longest_path.specs.Cells.{put}
 use Rattle.longest_path.proofs.Handing.{handing_begins, handing_raised}

@@ -2,8 +2,8 @@ use Rattle.std.proofs.Common.{ℕ, ◌≡◌, ◌⊎◌, ◌+◌, ◌<◌, ◌�
 use Rattle.fleet_base.specs.declared.geometry.Visit.{Visit}
 use Rattle.fleet_base.specs.Order.{IsVisit, Before, next_visit}
 use Rattle.fleet_base.specs.State.{duration_of}
+use Rattle.fleet_base.specs.VisitRows.{tick_in}
 use Rattle.plan_graph.specs.Views.{order_in}
-use Rattle.longest_path.specs.Ticks.{tick_in}
 use Rattle.longest_path.proofs.Handing.{handing_on, handed_all, under_done}
 use Rattle.longest_path.proofs.spreading.hand_on.Goals as goal
 

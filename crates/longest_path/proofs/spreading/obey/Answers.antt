@@ -1,9 +1,9 @@
 use Rattle.std.proofs.Common.{ℕ, ◌≡◌, ◌+◌, ◌<◌, ◌≤◌, sym, ap, ◌∙◌, subst, arith}
 use Rattle.fleet_base.specs.Order.{Graph}
 use Rattle.fleet_base.specs.State.{duration_of}
-use Rattle.plan_graph.specs.Limits.{IsWithinLimits}
+use Rattle.fleet_base.specs.VisitRows.{tick_in}
 use Rattle.plan_graph.specs.Views.{order_in}
-use Rattle.longest_path.specs.Ticks.{tick_in}
+use Rattle.plan_graph.specs.Limits.{IsGraphWithinLimits}
 use Rattle.longest_path.specs.Rising.{IsUnderWay, Marked}
 use Rattle.longest_path.proofs.Handing.{HasBegun, has_begun_at}
 use Rattle.longest_path.proofs.Smallness.{least_rows_small}
@@ -32,7 +32,7 @@ spread-obeyed-requires-clause-under_way c =
 
 pub returns-then-obeyed-clause-small : goal.returns-then-obeyed-clause-small
 returns-then-obeyed-clause-small c =
-    let limits = subst (λ (h : Graph). IsWithinLimits h) c.graph.ensures c.robots-within.ensures.limits in
+    let limits = subst (λ (h : Graph). IsGraphWithinLimits h) c.graph.ensures c.robots-within.ensures.limits in
     least_rows_small c.args.view.now.graph c.args.fleet.now c.requires.state limits (order_in c.args.view.now) c.requires.closed c.spread-obeyed.new.rows c.spread-obeyed.ensures.rows (c.spread-obeyed.ensures.least c.if-obeyed.true)
 
 pub returns-then-obeyed-clause-room : goal.returns-then-obeyed-clause-room

@@ -1,8 +1,8 @@
 use Rattle.std.proofs.Common.{ℕ, ◌≡◌, ◌≢◌, ◌⊎◌, ◌+◌, ◌<◌, ◌≤◌, List, Bool, true, false, sym, ap, ◌∙◌, subst, refl, inl, inr, arith}
 use Rattle.fleet_base.specs.declared.geometry.Visit.{Visit}
 use Rattle.fleet_base.specs.Order.{IsVisit}
+use Rattle.fleet_base.specs.VisitRows.{tick_in}
 use Rattle.plan_graph.specs.Views.{order_in}
-use Rattle.longest_path.specs.Ticks.{tick_in}
 use Rattle.longest_path.specs.Cells.{HasCell, AreAlike, put, mark_count}
 use Rattle.longest_path.specs.Working.{IsWorkFor, IsKeptBy}
 use Rattle.longest_path.specs.Rising.{IsUnderWay, Marked, headroom}

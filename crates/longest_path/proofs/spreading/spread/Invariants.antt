@@ -1,7 +1,7 @@
 use Rattle.std.proofs.Common.{ℕ, ◌+◌}
 use Rattle.fleet_base.specs.declared.geometry.Visit.{Visit}
+use Rattle.fleet_base.specs.VisitRows.{tick_in, AreRowsFor}
 use Rattle.plan_graph.specs.Views.{order_in}
-use Rattle.longest_path.specs.Ticks.{tick_in, AreRowsFor}
 use Rattle.longest_path.specs.Cells.{mark_count}
 use Rattle.longest_path.specs.Working.{IsWorkFor, IsKeptBy}
 use Rattle.longest_path.specs.Rising.{IsUnderWay, Marked, headroom}

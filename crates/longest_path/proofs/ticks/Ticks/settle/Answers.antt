@@ -1,9 +1,10 @@
 use Rattle.std.proofs.Common.{◌≤◌, sym, subst, arith, length}
 use Rattle.plan_graph.specs.Views.{order_in}
 use Rattle.longest_path.specs.Falling.{WasAdded}
-use Rattle.longest_path.specs.Ticks.{KeptSchedule, AreRowsFor, schedule_in}
+use Rattle.longest_path.specs.Ticks.{KeptSchedule, schedule_in}
 use Rattle.longest_path.proofs.RowCounts.{ticks_kept, room_for}
 use Rattle.longest_path.proofs.ticks.Ticks.settle.Goals as goal
+use Rattle.fleet_base.specs.VisitRows.{AreRowsFor}
 
 pub settle-requires-clause-added : goal.settle-requires-clause-added
 settle-requires-clause-added c =

@@ -1,6 +1,6 @@
 use Rattle.std.proofs.Common.{ℕ, ◌≡◌, List, Bool, true, false, sym, ap, ◌∙◌, subst}
 use Rattle.fleet_base.specs.declared.geometry.Visit.{Visit}
-use Rattle.longest_path.specs.Ticks.{AreRowsFor}
+use Rattle.fleet_base.specs.VisitRows.{AreRowsFor}
 use Rattle.longest_path.specs.Cells.{AreAlike, is_marked, no_marks}
 use Rattle.longest_path.proofs.Zeros.{same_rows, same_rows_for, same_at, zero_rows}
 use Rattle.longest_path.proofs.Working.{rows_alike}

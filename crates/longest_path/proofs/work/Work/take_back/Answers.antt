@@ -1,10 +1,10 @@
 use Rattle.std.proofs.Common.{ℕ, ◌≡◌, List, Bool, true, false, sym, ap, ◌∙◌, subst}
-use Rattle.longest_path.specs.Ticks.{tick_in}
 use Rattle.longest_path.specs.Cells.{HasCell, put, AreAlike}
 use Rattle.longest_path.specs.Working.{IsWorkFor, IsKeptBy}
 use Rattle.longest_path.proofs.Cells.{alike_on, alike_sym, alike_cell, put_alike, marked_cell}
 use Rattle.longest_path.proofs.Working.{kept_back, work_on}
 use Rattle.longest_path.proofs.work.Work.take_back.Goals as goal
+use Rattle.fleet_base.specs.VisitRows.{tick_in}
 
 pub loop-v-preserved : goal.loop-v-preserved
 loop-v-preserved c =

@@ -1,12 +1,8 @@
-use Rattle.std.proofs.Common.{arith, ap}
-use Rattle.fleet_base.specs.declared.geometry.Visit.{Visit}
+use Rattle.std.proofs.Common.{arith}
+use Rattle.fleet_base.proofs.Edges.{first_there}
 use Rattle.plan_graph.proofs.PlanGraphs.{index_within}
 use Rattle.plan_graph.proofs.view.Oriented.tail_into.Goals as goal
-use Rattle.plan_graph.proofs.view.Oriented.tail_into.Goals.{in-Lower, in-Higher}
 
-pub overflow_add-result : goal.overflow_add-result
-overflow_add-result c =
-    elim c.match-side.branch [
-      | in-Lower w ↦ omega (arith, ap (λ (vs : Visit × Visit). vs.0.index) w.t-17-is, index_within _ c.robots-within.ensures.limits c.pair-pair.result.lower (c.robots-within.ensures.graph.lower _ _ c.pair-pair.ensures))
-      | in-Higher w ↦ omega (arith, ap (λ (vs : Visit × Visit). vs.0.index) w.t-17-is, index_within _ c.robots-within.ensures.limits c.pair-pair.result.higher (c.robots-within.ensures.graph.higher _ _ c.pair-pair.ensures))
-    ]
+pub edge-edge-requires : goal.edge-edge-requires
+edge-edge-requires c =
+    omega (arith, index_within _ c.robots-within.ensures.limits _ (first_there _ _ c.pair-pair.result c.in_ok-side.side c.robots-within.ensures.graph c.pair-pair.ensures))
