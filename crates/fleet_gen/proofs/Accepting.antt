@@ -7,23 +7,12 @@ use Rattle.fleet_base.specs.declared.geometry.PlannedVisit.{PlannedVisit}
 use Rattle.fleet_base.specs.Lists.{row_of}
 use Rattle.fleet_base.specs.Grid.{OccupancyGrid, same_cell}
 use Rattle.fleet_base.specs.Plan.{visits_of, visits_of_path, later_visits, IsWithinLimits, IsAccepted}
-use Rattle.fleet_base.proofs.VisitLaws.{cond_case}
+use Rattle.fleet_base.proofs.VisitLaws.{cond_case, length-visits}
 use Rattle.fleet_base.proofs.GraphLaws.{route_is, length-map}
 use Rattle.fleet_base.proofs.Rows.{get_or_within}
 use Rattle.fleet_gen.specs.declared.road.Road.{Road}
 use Rattle.fleet_gen.specs.Departures.{AreRoads, AreEarliest}
 use Rattle.fleet_gen.proofs.Turns.{all_sound, short_path}
-
--- a path has as many visits as cells at most
-length-later : (before : Cell) (t : ℕ) (cs : List Cell) → length (later_visits before t cs) ≤ length cs
-length-later before t [] = omega arith
-length-later before t (c ∷ cs) =
-    cond_case (λ (l : List PlannedVisit). length l ≤ length (c ∷ cs)) (same_cell before c) (later_visits c (t + 1) cs) (record { cell = c; tick = t } ∷ later_visits c (t + 1) cs)
-    (λ _. omega (arith, length-later c (t + 1) cs)) (λ _. omega (arith, length-later c (t + 1) cs))
-
-length-visits : (path : List Cell) → length (visits_of_path path) ≤ length path
-length-visits [] = omega arith
-length-visits (c ∷ cs) = omega (arith, length-later c 1 cs)
 
 module _ (grid : OccupancyGrid) (roads : List Road) (ok : AreRoads grid roads) (plan : List (List Cell)) (turns : AreEarliest grid roads plan) (few : length plan ≤ length roads) where
   short : (i : ℕ) → i < length plan → length (row_of plan i) ≤ 1985

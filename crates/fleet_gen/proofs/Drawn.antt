@@ -2,7 +2,7 @@
 use Rattle.std.proofs.Common.{ℕ, suc, zero, ◌≡◌, ◌≢◌, ◌+◌, ◌-◌, ◌*◌, ◌/◌, ◌%◌, ◌<◌, ◌≤◌, ◌⊎◌, List, Bool, true, false, refl, sym, ap, ◌∙◌, subst, inl, inr, arith, length, min, max, get_or, set}
 use Rattle.std.specs.Prelude.{◌&&◌, ◌||◌}
 use Rattle.std.specs.List.{swap, list_any, range_with_len}
-use Rattle.std.proofs.lemmas.Bool.{cases_eq, cases_lt, lt-ltb, le-leb, eq-eqb}
+use Rattle.std.proofs.lemmas.Bool.{cases_eq, cases_lt, lt-ltb, le-leb, eq-eqb, and_from, or_left, or_right}
 use Rattle.std.proofs.lemmas.List.{get_or-set_other, get_or-set_same, length-set}
 use Rattle.std.proofs.lemmas.List.Edits.{swap_is}
 use Rattle.std.proofs.lemmas.List.Folds.{list_any_at}
@@ -114,19 +114,6 @@ module _ (words : ℕ → ℕ) where
       let w = (arranged 31 (omega arith)).within i h in
       record { row = omega (arith, h, drawn_row i); column = drawn_column i; goal = omega (arith, w, drawn_goal i) }
 
--- ---- whether a test of several parts is passed
-both : (a b : Bool) → a ≡ true → b ≡ true → (a && b) ≡ true
-both true b e f = f
-both false b e f = e
-
-left : (a b : Bool) → a ≡ true → (a || b) ≡ true
-left true b e = refl
-left false b e = cc
-
-right : (a b : Bool) → b ≡ true → (a || b) ≡ true
-right true b e = refl
-right false b e = e
-
 -- ---- a road goes through its cells
 pub passes_on : (r : Road) → IsRoad r → (n : ℕ) → is_on_road r (cell_after r n) ≡ true
 passes_on r lies n = go (cases_lt n r.column) (cases_lt n (r.column + rows_of r))
@@ -135,18 +122,18 @@ passes_on r lies n = go (cases_lt n r.column) (cases_lt n (r.column + rows_of r)
     go (inl lt) o =
         let row = eq-eqb (cell_after r n).row r.row (first_row r lies n (omega (arith, lt))) in
         let col = le-leb (cell_after r n).col r.column (omega (arith, first_col r lies n (omega (arith, lt)), lt)) in
-        left _ _ (left _ _ (both _ _ row col))
+        or_left _ _ (or_left _ _ (and_from _ _ row col))
     go (inr le) (inl lt) =
         let col = eq-eqb (cell_after r n).col r.column (across_col r lies n le (omega (arith, lt))) in
         let low = le-leb (min r.row r.goal) (cell_after r n).row (omega arith) in
         let high = le-leb (cell_after r n).row (max r.row r.goal) (omega arith) in
-        left _ _ (right _ _ (both _ _ col (both _ _ low high)))
+        or_left _ _ (or_right _ _ (and_from _ _ col (and_from _ _ low high)))
     go (inr le) (inr past) =
         let row = eq-eqb (cell_after r n).row r.goal (last_row r lies n past) in
         let bound = lies.column.1 in
         let col = le-leb r.column (cell_after r n).col (omega (arith, last_col r lies n past, past, bound)) in
         let end = le-leb (cell_after r n).col 31 (omega (arith, on_map_col r lies n)) in
-        right _ _ (both _ _ row (both _ _ col end))
+        or_right _ _ (and_from _ _ row (and_from _ _ col end))
 
 -- ---- and they stay free
 module _ (roads : List Road) (words : ℕ → ℕ) where
@@ -163,7 +150,7 @@ module _ (roads : List Road) (words : ℕ → ℕ) where
 
   free_on_road : (k : ℕ) → list_any (λ road. is_on_road road (record { row = k / 32; col = k % 32 })) roads ≡ true → stays_free roads words k ≡ true
   unfolding stays_free
-  free_on_road k e = left _ _ e
+  free_on_road k e = or_left _ _ e
 
   the_cell : (c : Cell) → c.col < 32 → record { row = (c.row * 32 + c.col) / 32; col = (c.row * 32 + c.col) % 32 } ≡ c
   the_cell c h = same_parts _ _ (omega (arith, h)) (omega (arith, h))
@@ -179,7 +166,7 @@ module _ (roads : List Road) (words : ℕ → ℕ) where
       ap (is_on_road (road_at roads i)) (the_cell c hc) ∙ passes_on (road_at roads i) lies n in
       let some = list_any_at (λ road. is_on_road road (record { row = (c.row * 32 + c.col) / 32; col = (c.row * 32 + c.col) % 32 })) roads i no_road h on in
       let mark = mark_at 1024 (c.row * 32 + c.col) (omega (arith, hr, hc)) ∙ free_on_road (c.row * 32 + c.col) some in
-      both _ _ (both _ _ (lt-ltb c.row 32 hr) (lt-ltb c.col 32 hc)) mark
+      and_from _ _ (and_from _ _ (lt-ltb c.row 32 hr) (lt-ltb c.col 32 hc)) mark
 
 -- ---- so the drawn roads are roads of a fleet
 pub drawn_roads : (words marks : ℕ → ℕ) → AreRoads (floor (roads_of words 32) marks) (roads_of words 32)

@@ -1,17 +1,13 @@
 -- The three stretches of a road, and the cells that it goes through.
 use Rattle.std.proofs.Common.{ℕ, ◌≡◌, ◌+◌, ◌-◌, ◌<◌, ◌≤◌, ◌⊎◌, Bool, true, false, refl, sym, ap, ◌∙◌, subst, inl, inr, arith, min, max}
 use Rattle.std.specs.Prelude.{◌&&◌, ◌||◌, ◌==◌, nat_le}
-use Rattle.std.proofs.lemmas.Bool.{cases_lt, eqb-true, leb-true}
+use Rattle.std.proofs.lemmas.Bool.{cases_lt, eqb-true, leb-true, and_parts}
 use Rattle.fleet_base.specs.declared.geometry.Cell.{Cell}
 use Rattle.fleet_base.specs.Grid.{distance}
 use Rattle.fleet_gen.specs.declared.road.Road.{Road}
 use Rattle.fleet_gen.specs.Roads.{IsRoad, rows_of, moves_of, cell_after, is_on_road, toward}
 use Rattle.fleet_gen.proofs.Courses.{same_parts, first_row, first_col, across_col, last_row, last_col}
 use Rattle.fleet_gen.proofs.Drawn.{passes_on}
-
-both_parts : (a b : Bool) → (a && b) ≡ true → (a ≡ true) × (b ≡ true)
-both_parts true b e = (refl, e)
-both_parts false b e = cc
 
 either_part : (a b : Bool) → (a || b) ≡ true → (a ≡ true) ⊎ (b ≡ true)
 either_part true b e = inl refl
@@ -97,13 +93,13 @@ module _ (r : Road) (lies : IsRoad r) where
     on_road_after t = go (either_part _ _ t)
       where
         last : (at.row == r.goal && (nat_le r.column at.col && nat_le at.col 31)) ≡ true → Reached
-        last b = let p = both_parts _ _ b in let q = both_parts _ _ p.1 in on_last (eqb-true at.row r.goal p.0) (leb-true r.column at.col q.0) (leb-true at.col 31 q.1)
+        last b = let p = and_parts _ _ b in let q = and_parts _ _ p.1 in on_last (eqb-true at.row r.goal p.0) (leb-true r.column at.col q.0) (leb-true at.col 31 q.1)
 
         first : (at.row == r.row && nat_le at.col r.column) ≡ true → Reached
-        first b = let p = both_parts _ _ b in on_first (eqb-true at.row r.row p.0) (leb-true at.col r.column p.1)
+        first b = let p = and_parts _ _ b in on_first (eqb-true at.row r.row p.0) (leb-true at.col r.column p.1)
 
         middle : (at.col == r.column && (nat_le (min r.row r.goal) at.row && nat_le at.row (max r.row r.goal))) ≡ true → Reached
-        middle b = let p = both_parts _ _ b in let q = both_parts _ _ p.1 in on_across (eqb-true at.col r.column p.0) (leb-true (min r.row r.goal) at.row q.0) (leb-true at.row (max r.row r.goal) q.1)
+        middle b = let p = and_parts _ _ b in let q = and_parts _ _ p.1 in on_across (eqb-true at.col r.column p.0) (leb-true (min r.row r.goal) at.row q.0) (leb-true at.row (max r.row r.goal) q.1)
 
         inner : (x : ((at.row == r.row && nat_le at.col r.column) ≡ true) ⊎ ((at.col == r.column && (nat_le (min r.row r.goal) at.row && nat_le at.row (max r.row r.goal))) ≡ true)) → Reached
         inner (inl b) = first b

@@ -1,5 +1,6 @@
 ghost use Rattle.std.specs.Prelude.{◌≡◌, ◌≤◌, IfOk};
 ghost use Rattle.fleet_gen.specs.Roads.{IsRoad, cell_after, is_on_road, moves_of, path_of, toward};
+ghost use Rattle.fleet_base.specs.Limits.{tick_limit};
 
 use crate::vectors::append;
 use fleet_base::{Cell, Memory};
@@ -29,7 +30,7 @@ impl Road {
     /// The cell after so many moves; at the end of the road it stays the same.
     pub fn cell(self, moved: u32) -> Cell
         requires road { IsRoad self }
-        requires moved { moved ≤ 4096 }
+        requires moved { moved ≤ tick_limit }
         ensures { result ≡ cell_after self moved }
     {
         let rows = self.row.abs_diff(self.goal);
@@ -70,8 +71,8 @@ impl Road {
 
 /// As many steps from one number toward another, and not beyond it.
 fn toward(from: u32, to: u32, steps: u32) -> u32
-    requires from { from ≤ 4096 }
-    requires steps { steps ≤ 4096 }
+    requires from { from ≤ tick_limit }
+    requires steps { steps ≤ tick_limit }
     ensures { result ≡ toward from to steps }
 {
     from.saturating_sub(steps).max(to.min(from + steps))

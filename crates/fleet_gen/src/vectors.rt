@@ -6,8 +6,5 @@ use fleet_base::Memory;
 pub(crate) fn append<T: Drop>(items: &mut Vec<T>, item: T) -> Result<(), Memory>
     ensures { OnOk result (items.new.items ≡ items.old.items ++ item ∷ []) }
 {
-    match items.push(item) {
-        Ok(()) => Ok(()),
-        Err(_) => Err(Memory),
-    }
+    Ok(items.push(item)?)
 }

@@ -4,6 +4,7 @@ use Rattle.std.specs.List.{list_all}
 use Rattle.fleet_base.specs.Lists.{range}
 use Rattle.fleet_base.specs.Grid.{OccupancyGrid, is_free}
 use Rattle.fleet_base.specs.Bytes.{file_lines, numeral}
+use Rattle.fleet_base.specs.Limits.{span_limit}
 
 -- the characters `.`, `G` and `S` stand for free cells
 abbrev pub is_free_char : ℕ → Bool
@@ -24,7 +25,7 @@ pub record IsRow (w : ℕ) (line : List ℕ) : Type 0 where
 
 -- a side that a map may have
 abbrev pub IsSize : ℕ → Type 0
-IsSize n = (1 ≤ n) × (n ≤ 4096)
+IsSize n = (1 ≤ n) × (n ≤ span_limit)
 
 -- the header line of the height, which may be any number
 abbrev pub height_line : ℕ → List ℕ

@@ -1,3 +1,5 @@
+use thiserror::Error;
+
 /// What is wrong with a line of a text that is no map.
 #[derive(Clone, Copy, Debug, PartialEq, Eq)]
 pub enum MapKind {
@@ -22,17 +24,20 @@ pub enum MapKind {
 }
 
 /// The first line of a text at which it is no map, counted from 1, and what is wrong there.
-#[derive(Clone, Copy, Debug, PartialEq, Eq)]
+#[derive(Clone, Copy, Debug, PartialEq, Eq, Error)]
+#[error("line {line} is no line of a map")]
 pub struct MapFault {
     pub line: u32,
     pub kind: MapKind,
 }
 
 /// Why a text is not read as a map.
-#[derive(Clone, Copy, Debug, PartialEq, Eq)]
+#[derive(Clone, Copy, Debug, PartialEq, Eq, Error)]
 pub enum MapError {
     /// The text is no map.
+    #[error("{0}")]
     Fault(MapFault),
     /// Memory ran out.
+    #[error("out of memory")]
     Memory,
 }

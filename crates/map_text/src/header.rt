@@ -6,8 +6,9 @@ ghost use Rattle.map_text.specs.MapFaults.{IsWrongSide, IsMapFault};
 
 use crate::fault::{MapFault, MapKind};
 use crate::lines::skip_line;
-use crate::numerals::{LARGEST, capped_number};
+use crate::numerals::capped_number;
 use fleet_base::first_line;
+use fleet_base::limits::SPAN;
 
 /// The sides of a map, and the text after its header.
 #[derive(Clone, Copy, Debug)]
@@ -66,7 +67,7 @@ fn read_side<'a>(bytes: &'a [u8], label: &[u8], own: MapKind) -> Result<(u32, &'
     let Some(value) = capped_number(digits) else {
         return Err(own);
     };
-    if value == 0 || value > LARGEST {
+    if value == 0 || value > SPAN {
         return Err(MapKind::Size);
     }
     Ok((value, rest))

@@ -1,14 +1,14 @@
 // The numbers of the header.
 ghost use Rattle.std.specs.Prelude.{◌≡◌, ◌≢◌, ◌+◌, ℕ, min, IfSome, IfNone};
 ghost use Rattle.fleet_base.specs.Bytes.{numeral};
+ghost use Rattle.fleet_base.specs.Limits.{span_limit};
 
-/// The greatest height and width of a map.
-pub const LARGEST: u32 = 4096;
+use fleet_base::limits::SPAN;
 
-/// The number that digits without a leading zero stand for, or 4,097 for each larger one.
+/// The number that digits without a leading zero stand for, or one more than the limit for each larger one.
 pub fn capped_number(digits: &[u8]) -> Option<u32>
     ensures some { IfSome result (λ value.
-        (n : ℕ) × (digits.now ≡ numeral n) × (value ≡ min n (LARGEST + 1))) }
+        (n : ℕ) × (digits.now ≡ numeral n) × (value ≡ min n (span_limit + 1))) }
     ensures none { IfNone result ((n : ℕ) → digits.now ≢ numeral n) }
 {
     if digits.is_empty() {
@@ -22,7 +22,7 @@ pub fn capped_number(digits: &[u8]) -> Option<u32>
         if !digit.is_ascii_digit() {
             return None;
         }
-        value = (10 * value + u32::from(*digit - b'0')).min(LARGEST + 1);
+        value = (10 * value + u32::from(*digit - b'0')).min(SPAN + 1);
     }
     Some(value)
 }

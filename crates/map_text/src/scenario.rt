@@ -2,6 +2,7 @@ ghost use Rattle.std.specs.Prelude.{◌≡◌};
 ghost use Rattle.map_text.specs.declared.scenario.ScenError.TheVariants as scen_error;
 
 use fleet_base::{Cell, Items, Memory};
+use thiserror::Error;
 
 /// What a robot is to do: on a map of this width and height, to go from its start to its goal.
 #[derive(Clone, Copy, Debug, PartialEq, Eq)]
@@ -29,18 +30,21 @@ pub enum ScenKind {
 }
 
 /// The first line of a text at which it is no scenario, counted from 1, and what is wrong there.
-#[derive(Clone, Copy, Debug, PartialEq, Eq)]
+#[derive(Clone, Copy, Debug, PartialEq, Eq, Error)]
+#[error("line {line} is no line of a scenario")]
 pub struct ScenFault {
     pub line: u32,
     pub kind: ScenKind,
 }
 
 /// Why a text is not read as a scenario.
-#[derive(Clone, Copy, Debug, PartialEq, Eq)]
+#[derive(Clone, Copy, Debug, PartialEq, Eq, Error)]
 pub enum ScenError {
     /// The text is no scenario.
+    #[error("{0}")]
     Fault(ScenFault),
     /// Memory ran out.
+    #[error("out of memory")]
     Memory,
 }
 

@@ -2,6 +2,7 @@ ghost use Rattle.std.specs.Prelude.{ℕ, ◌≡◌, ◌-◌, ◌+◌, ◌<◌, �
 ghost use Rattle.fleet_base.specs.declared.geometry.Cell.{Cell};
 ghost use Rattle.fleet_base.specs.Grid.{is_free};
 ghost use Rattle.fleet_base.specs.Plan.{IsSound};
+ghost use Rattle.fleet_base.specs.Limits.{tick_limit};
 ghost use Rattle.plan_steps.specs.Steps.{IsClear, MayStep};
 ghost use Rattle.path_planner.specs.Layers.{LeadsTo, IsReached};
 ghost use Rattle.path_planner.specs.Tables.{CoverGrid, Covers, TellsPlaces, TellsRobots};
@@ -24,9 +25,9 @@ pub(crate) fn keep_ways(
     task: Task,
     layers: &mut Layers,
 ) -> Result<(), Memory>
-    requires paths { AreInTime 4096 fixed.now }
+    requires paths { AreInTime tick_limit fixed.now }
     requires sound { IsSound grid.now fixed.now }
-    requires ticks { length layers.old ≤ 4097 }
+    requires ticks { length layers.old ≤ tick_limit + 1 }
     requires ways { HasWays grid.now fixed.now task layers.old }
     requires goal { IsReached grid.now fixed.now task.start (length layers.old - 1) task.goal }
     requires tables { CoverGrid grid.now tables.old }
@@ -61,9 +62,9 @@ fn keep_layer(
     layer: &[Cell],
     next: &[Cell],
 ) -> Result<Items<Cell>, Memory>
-    requires paths { AreInTime 4096 fixed.now }
+    requires paths { AreInTime tick_limit fixed.now }
     requires sound { IsSound grid.now fixed.now }
-    requires tick { tick ≤ 4096 }
+    requires tick { tick ≤ tick_limit }
     requires stood { AreStood grid.now fixed.now tick layer.now }
     requires next { (c : Cell) → Contains next.now c → IsTrue (is_free grid.now c) }
     requires tables { CoverGrid grid.now tables.old }
@@ -99,9 +100,9 @@ fn leads_into(
     next: &[Cell],
     places: &CellTable,
 ) -> bool
-    requires paths { AreInTime 4096 fixed.now }
+    requires paths { AreInTime tick_limit fixed.now }
     requires sound { IsSound grid.now fixed.now }
-    requires tick { tick ≤ 4096 }
+    requires tick { tick ≤ tick_limit }
     requires free { IsTrue (is_free grid.now from) }
     requires clear { IsClear fixed.now tick from }
     requires robots { TellsRobots fixed.now (tick + 1) traffic.now }
@@ -126,9 +127,9 @@ pub(crate) fn least_path(
     task: Task,
     layers: &Layers,
 ) -> Result<Vec<Cell>, Memory>
-    requires paths { AreInTime 4096 fixed.now }
+    requires paths { AreInTime tick_limit fixed.now }
     requires sound { IsSound grid.now fixed.now }
-    requires ticks { length layers.now ≤ 4097 }
+    requires ticks { length layers.now ≤ tick_limit + 1 }
     requires ways { AreWays grid.now fixed.now task layers.now }
     requires start { LeadsTo grid.now fixed.now task.goal (length layers.now - 1) 0 task.start }
     requires stood { IsReached grid.now fixed.now task.start 0 task.start }
@@ -151,10 +152,7 @@ pub(crate) fn least_path(
 fn push_cell(path: &mut Vec<Cell>, cell: Cell) -> Result<(), Memory>
     ensures { OnOk result (path.new.items ≡ path.old.items ++ cell ∷ []) }
 {
-    match path.push(cell) {
-        Ok(()) => Ok(()),
-        Err(_) => Err(Memory),
-    }
+    Ok(path.push(cell)?)
 }
 
 /// The least cell of the next layer into which a step leads from a cell.
@@ -166,9 +164,9 @@ fn least_step(
     from: Cell,
     next: &[Cell],
 ) -> Cell
-    requires paths { AreInTime 4096 fixed.now }
+    requires paths { AreInTime tick_limit fixed.now }
     requires sound { IsSound grid.now fixed.now }
-    requires tick { tick ≤ 4096 }
+    requires tick { tick ≤ tick_limit }
     requires free { IsTrue (is_free grid.now from) }
     requires clear { IsClear fixed.now tick from }
     requires leads { LeadsInto grid.now fixed.now tick from next.now }

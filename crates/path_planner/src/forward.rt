@@ -1,6 +1,7 @@
 ghost use Rattle.std.specs.Prelude.{ℕ, ◌≡◌, ◌+◌, ◌≤◌, ◌↔◌, true, false, IfOk, OnOk, length, IsTrue, Contains};
 ghost use Rattle.fleet_base.specs.Grid.{is_free};
 ghost use Rattle.fleet_base.specs.Plan.{IsSound};
+ghost use Rattle.fleet_base.specs.Limits.{tick_limit};
 ghost use Rattle.plan_steps.specs.Steps.{IsClear};
 ghost use Rattle.path_planner.specs.Layers.{IsClearFrom};
 ghost use Rattle.path_planner.specs.Tables.{CoverGrid, Covers, TellsPlaces, TellsRobots};
@@ -36,9 +37,9 @@ pub(crate) fn first_layers(
     from: u32,
     horizon: u32,
 ) -> Result<Option<Layers>, Memory>
-    requires paths { AreInTime 4096 fixed.now }
+    requires paths { AreInTime tick_limit fixed.now }
     requires sound { IsSound grid.now fixed.now }
-    requires horizon { horizon ≤ 4096 }
+    requires horizon { horizon ≤ tick_limit }
     requires from { (t : ℕ) → IsClearFrom fixed.now t task.goal ↔ (from ≤ t) }
     requires tables { CoverGrid grid.now tables.old }
     ensures layers { IfOk result (AreLayers grid.now fixed.now task horizon) }
@@ -75,9 +76,9 @@ fn layers_to_arrival(
     from: u32,
     last: u32,
 ) -> Result<Option<Layers>, Memory>
-    requires paths { AreInTime 4096 fixed.now }
+    requires paths { AreInTime tick_limit fixed.now }
     requires sound { IsSound grid.now fixed.now }
-    requires last { last ≤ 4096 }
+    requires last { last ≤ tick_limit }
     requires from { (t : ℕ) → IsClearFrom fixed.now t task.goal ↔ (from ≤ t) }
     requires tables { CoverGrid grid.now tables.old }
     ensures layers { IfOk result (AreLayers grid.now fixed.now task last) }
@@ -107,7 +108,7 @@ fn first_layer(
     fixed: &RawPlan,
     start: Cell,
 ) -> Result<Items<Cell>, Memory>
-    requires paths { AreInTime 4096 fixed.now }
+    requires paths { AreInTime tick_limit fixed.now }
     ensures { IfOk result (IsFirstLayer grid.now fixed.now start) }
 {
     let mut layer = Items::new(alloc);
@@ -127,9 +128,9 @@ fn next_layer(
     aim: Aim,
     layer: &[Cell],
 ) -> Result<Items<Cell>, Memory>
-    requires paths { AreInTime 4096 fixed.now }
+    requires paths { AreInTime tick_limit fixed.now }
     requires sound { IsSound grid.now fixed.now }
-    requires tick { tick ≤ 4096 }
+    requires tick { tick ≤ tick_limit }
     requires stood { AreStood grid.now fixed.now tick layer.now }
     requires tables { CoverGrid grid.now tables.old }
     ensures layer { IfOk result (IsNextLayer grid.now fixed.now tick aim layer.now) }
@@ -163,9 +164,9 @@ fn step_out(
     places: &mut CellTable,
     next: &mut Items<Cell>,
 ) -> Result<(), Memory>
-    requires paths { AreInTime 4096 fixed.now }
+    requires paths { AreInTime tick_limit fixed.now }
     requires sound { IsSound grid.now fixed.now }
-    requires tick { tick ≤ 4096 }
+    requires tick { tick ≤ tick_limit }
     requires free { IsTrue (is_free grid.now from) }
     requires clear { IsClear fixed.now tick from }
     requires robots { TellsRobots fixed.now (tick + 1) traffic.now }
@@ -189,7 +190,7 @@ fn step_out(
 
 /// Whether the goal is near enough to be reached in time, were nothing in the way.
 fn is_in_reach(at: Cell, tick: usize, aim: Aim) -> bool
-    requires { tick ≤ 4097 }
+    requires { tick ≤ tick_limit + 1 }
     ensures yes { result ≡ true → IsInReach aim tick at }
     ensures no { result ≡ false → ¬ IsInReach aim tick at }
 {

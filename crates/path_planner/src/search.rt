@@ -1,5 +1,6 @@
-ghost use Rattle.std.specs.Prelude.{ℕ, ◌≡◌, ◌≤◌, ◌↔◌, ◌-◌, max, IfOk, OnOk, length};
+ghost use Rattle.std.specs.Prelude.{ℕ, ◌≡◌, ◌≤◌, ◌↔◌, ◌-◌, max, IfOk, OnOk, length, ◌+◌};
 ghost use Rattle.fleet_base.specs.Plan.{IsSound};
+ghost use Rattle.fleet_base.specs.Limits.{robot_limit, tick_limit};
 ghost use Rattle.path_planner.specs.Tables.{CoverGrid};
 ghost use Rattle.path_planner.specs.Search.{AreInTime, IsBestPath, IsClearTick, IsLeaveTick};
 
@@ -19,10 +20,10 @@ pub(crate) fn best_path(
     task: Task,
     horizon: u32,
 ) -> Result<Option<Vec<Cell>>, Memory>
-    requires robots { length fixed.now ≤ 256 }
+    requires robots { length fixed.now ≤ robot_limit }
     requires paths { AreInTime horizon fixed.now }
     requires sound { IsSound grid.now fixed.now }
-    requires horizon { horizon ≤ 4096 }
+    requires horizon { horizon ≤ tick_limit }
     requires tables { CoverGrid grid.now tables.old }
     ensures path { IfOk result (IsBestPath grid.now horizon fixed.now task) }
     ensures tables { CoverGrid grid.now tables.new }
@@ -41,7 +42,7 @@ pub(crate) fn best_path(
 
 /// The first tick from which on no fixed robot is in the cell.
 fn clear_tick(fixed: &RawPlan, at: Cell) -> Option<u32>
-    requires paths { AreInTime 4096 fixed.now }
+    requires paths { AreInTime tick_limit fixed.now }
     ensures { IsClearTick fixed.now at result }
 {
     let mut from = 0;
@@ -64,7 +65,7 @@ fn later(a: u32, b: u32) -> u32
 /// The first tick from which on a path is not in the cell, if it does not end there.
 fn left_at(path: &[Cell], at: Cell) -> Option<u32>
     requires cells { 1 ≤ length path.now }
-    requires ticks { length path.now ≤ 4097 }
+    requires ticks { length path.now ≤ tick_limit + 1 }
     ensures { IsLeaveTick path.now at result }
 {
     if path[path.len() - 1] == at {

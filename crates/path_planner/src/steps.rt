@@ -1,6 +1,7 @@
 ghost use Rattle.std.specs.Prelude.{ℕ, ◌≡◌, ◌+◌, ◌<◌, ◌≤◌, true, false, length};
 ghost use Rattle.fleet_base.specs.Grid.{distance};
 ghost use Rattle.fleet_base.specs.Plan.{cell_at, IsSound, IsCollisionFree};
+ghost use Rattle.fleet_base.specs.Limits.{tick_limit};
 ghost use Rattle.path_planner.specs.Search.{AreInTime};
 ghost use Rattle.plan_steps.specs.Steps.{IsClear, IsClosed, MayStep};
 ghost use Rattle.plan_steps.specs.Traffic.{IsRobotIn};
@@ -11,9 +12,9 @@ use fleet_base::{Cell, Grid, RawPlan};
 
 /// Writes at the cells of the fixed robots at the tick after this one which robot it is.
 pub(crate) fn turn_to(grid: &Grid, fixed: &RawPlan, tick: usize, traffic: &mut CellTable)
-    requires paths { AreInTime 4096 fixed.now }
+    requires paths { AreInTime tick_limit fixed.now }
     requires sound { IsSound grid.now fixed.now }
-    requires tick { tick ≤ 4096 }
+    requires tick { tick ≤ tick_limit }
     requires covers { Covers grid.now traffic.old }
     ensures covers { Covers grid.now traffic.new }
     ensures robots { TellsRobots fixed.now (tick + 1) traffic.new }
@@ -33,9 +34,9 @@ pub(crate) fn may_step(
     from: Cell,
     to: Cell,
 ) -> bool
-    requires paths { AreInTime 4096 fixed.now }
+    requires paths { AreInTime tick_limit fixed.now }
     requires apart { IsCollisionFree fixed.now }
-    requires tick { tick ≤ 4096 }
+    requires tick { tick ≤ tick_limit }
     requires robots { TellsRobots fixed.now (tick + 1) traffic.now }
     requires clear { IsClear fixed.now tick from }
     requires near { distance from to ≤ 1 }
@@ -50,9 +51,9 @@ pub(crate) fn may_step(
 /// Whether moves, each into the cell from which the next one goes, lead from a cell to another. They are followed back from
 /// the cell where they end, so that each robot's move is looked at from one cell alone.
 fn is_closed(fixed: &RawPlan, traffic: &CellTable, tick: usize, from: Cell, to: Cell) -> bool
-    requires paths { AreInTime 4096 fixed.now }
+    requires paths { AreInTime tick_limit fixed.now }
     requires apart { IsCollisionFree fixed.now }
-    requires tick { tick ≤ 4096 }
+    requires tick { tick ≤ tick_limit }
     requires robots { TellsRobots fixed.now (tick + 1) traffic.now }
     requires clear { IsClear fixed.now tick to }
     ensures yes { result ≡ true → IsClosed fixed.now tick from to }
@@ -71,7 +72,7 @@ fn is_closed(fixed: &RawPlan, traffic: &CellTable, tick: usize, from: Cell, to: 
 
 /// Whether no fixed robot is in a cell at a tick.
 pub(crate) fn is_clear(fixed: &RawPlan, tick: usize, at: Cell) -> bool
-    requires paths { AreInTime 4096 fixed.now }
+    requires paths { AreInTime tick_limit fixed.now }
     ensures yes { result ≡ true → IsClear fixed.now tick at }
     ensures no { result ≡ false → ¬ IsClear fixed.now tick at }
 {
@@ -85,7 +86,7 @@ pub(crate) fn is_clear(fixed: &RawPlan, tick: usize, at: Cell) -> bool
 
 /// The fixed robot that is in a cell at a tick, of which the table tells.
 fn robot_in(fixed: &RawPlan, table: &CellTable, tick: usize, at: Cell) -> Option<usize>
-    requires paths { AreInTime 4096 fixed.now }
+    requires paths { AreInTime tick_limit fixed.now }
     requires robots { TellsRobots fixed.now tick table.now }
     ensures { IsRobotIn fixed.now tick at result }
 {
@@ -101,7 +102,7 @@ fn robot_in(fixed: &RawPlan, table: &CellTable, tick: usize, at: Cell) -> Option
 
 /// The cell of a fixed robot at a tick.
 fn cell_of(fixed: &RawPlan, robot: usize, tick: usize) -> Cell
-    requires paths { AreInTime 4096 fixed.now }
+    requires paths { AreInTime tick_limit fixed.now }
     requires robot { robot < length fixed.now }
     ensures { result ≡ cell_at fixed.now robot tick }
 {

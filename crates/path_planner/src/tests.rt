@@ -1,5 +1,5 @@
 ghost use Rattle.std.specs.Prelude.{◌≤◌, All, IfOk, OnOk, length};
-ghost use Rattle.plan_check.specs.Faults.{HasRobots};
+ghost use Rattle.fleet_base.specs.Plan.{HasRobots};
 
 use super::*;
 use fleet_base::{Cell, Grid, RawPlan};

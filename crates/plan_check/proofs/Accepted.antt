@@ -6,10 +6,10 @@ use Rattle.std.proofs.lemmas.List.{get_or_default}
 use Rattle.fleet_base.specs.declared.geometry.Cell.{Cell}
 use Rattle.fleet_base.specs.Lists.{row_of}
 use Rattle.fleet_base.specs.Grid.{OccupancyGrid, is_free, distance}
-use Rattle.fleet_base.specs.Plan.{cell_at, visits_of, IsRotation, IsWithinLimits, IsAccepted}
+use Rattle.fleet_base.specs.Plan.{HasRobots, cell_at, visits_of, IsRotation, IsWithinLimits, IsAccepted}
 use Rattle.plan_check.specs.declared.fault.Large.TheVariants.{Robots, Ticks, Visits}
 use Rattle.plan_check.specs.declared.fault.Unsound.TheVariants.{TooLarge, Blocked, Jump, Share, Swap, Rotation}
-use Rattle.plan_check.specs.Faults.{IsTooLarge, too_many_robots, too_many_ticks, too_many_visits, IsFaultless, HasRobots}
+use Rattle.plan_check.specs.Faults.{IsTooLarge, too_many_robots, too_many_ticks, too_many_visits, IsFaultless}
 use Rattle.plan_check.proofs.Staying.{stays_from}
 
 -- what holds of each row holds of each element

@@ -9,9 +9,10 @@ use Rattle.std.proofs.lemmas.Bool.{cases_eq, false_from_ne_true}
 use Rattle.std.proofs.lemmas.Map.Lookups.{exact_unsigned}
 use Rattle.fleet_base.specs.declared.geometry.Cell.{Cell}
 use Rattle.fleet_base.specs.Plan.{cell_at}
+use Rattle.fleet_base.specs.Grid.{cell_order}
 use Rattle.plan_check.specs.Faults.{IsAtMost}
 use Rattle.plan_check.specs.Ticks.{IsFirstPair}
-use Rattle.plan_check.specs.Occupants.{cell_cmp, occupant, HasOccupants, SharesFrom}
+use Rattle.plan_check.specs.Occupants.{occupant, HasOccupants, SharesFrom}
 use Rattle.plan_check.proofs.Firsts.{one_at_most}
 
 -- cells in one row and one column are the same
@@ -29,9 +30,9 @@ then_equal Less p h = cc
 then_equal Equal p h = (refl, h)
 then_equal Greater p h = cc
 
-pub cells_equal : (a b : Cell) → is_eq (cell_cmp a b) ≡ true → a ≡ b
+pub cells_equal : (a b : Cell) → is_eq (cell_order a b) ≡ true → a ≡ b
 cells_equal a b h =
-    let e = then_equal (nat_cmp a.row b.row) (nat_cmp a.col b.col) (same_order (cell_cmp a b) h) in
+    let e = then_equal (nat_cmp a.row b.row) (nat_cmp a.col b.col) (same_order (cell_order a b) h) in
     let r : a.row ≡ b.row = exact_unsigned a.row b.row e.0 in
     let c : a.col ≡ b.col = exact_unsigned a.col b.col e.1 in
     same_parts a b r c
@@ -45,19 +46,19 @@ cases_cell a b = go (cases_eq a.row b.row) (cases_eq a.col b.col)
     go (inr n) c = inr (λ e. n (ap (λ (x : Cell). x.row) e))
     go (inl r) (inr n) = inr (λ e. n (ap (λ (x : Cell). x.col) e))
 
-module _ (m n : BTreeMap Cell ℕ) (cell : Cell) (robot : ℕ) (put : Updates cell_cmp m n cell (Some robot)) where
+module _ (m n : BTreeMap Cell ℕ) (cell : Cell) (robot : ℕ) (put : Updates cell_order m n cell (Some robot)) where
   -- a cell has the robot that was put there, and each other keeps its own
   pub put_here : (q : Cell) → cell ≡ q → occupant n q ≡ Some robot
   put_here q e = subst (λ (w : Cell). occupant n w ≡ Some robot) e put.1
 
   pub put_apart : (q : Cell) → (cell ≡ q → ⊥) → occupant n q ≡ occupant m q
-  put_apart q ne = put.2 q (false_from_ne_true (is_eq (cell_cmp cell q)) (λ h. ne (cells_equal cell q h)))
+  put_apart q ne = put.2 q (false_from_ne_true (is_eq (cell_order cell q)) (λ h. ne (cells_equal cell q h)))
 
 module _ (plan : List (List Cell)) (t : ℕ) where
   -- from the last robot on there is none
   pub no_occupants : (m : BTreeMap Cell ℕ) (from : ℕ) → IsEmpty m → length plan ≤ from → HasOccupants m plan t from
   no_occupants m from empty h = record {
-    kept = λ c i e. let n : occupant m c ≡ None = ap (λ (es : List (Cell × ℕ)). lookup (is_at (cell_cmp c)) es) empty in cc;
+    kept = λ c i e. let n : occupant m c ≡ None = ap (λ (es : List (Cell × ℕ)). lookup (is_at (cell_order c)) es) empty in cc;
     least = λ i low there. absurd (omega (arith, h, low, there));
   }
 
@@ -65,7 +66,7 @@ module _ (plan : List (List Cell)) (t : ℕ) where
   no_shares from h i j s = let a = s.low in let b = s.below in let k = s.there in omega arith
 
   -- one robot more, from above
-  module _ (from r : ℕ) (next : from ≡ suc r) (there : r < length plan) (m n : BTreeMap Cell ℕ) (put : Updates cell_cmp m n (cell_at plan r t) (Some r)) (before : HasOccupants m plan t from) where
+  module _ (from r : ℕ) (next : from ≡ suc r) (there : r < length plan) (m n : BTreeMap Cell ℕ) (put : Updates cell_order m n (cell_at plan r t) (Some r)) (before : HasOccupants m plan t from) where
     pub more_occupants : HasOccupants n plan t r
     more_occupants = record { kept = λ c i e. keeps c i e (cases_cell (cell_at plan r t) c); least = λ i low h. lowest i low h (cases_eq i r) (cases_cell (cell_at plan r t) (cell_at plan i t)) }
       where

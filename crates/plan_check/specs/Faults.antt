@@ -1,9 +1,10 @@
 -- The faults of a plan, and which of them is the first.
-use Rattle.std.specs.Prelude.{ℕ, ◌≡◌, ◌⊎◌, ◌-◌, ◌<◌, ◌≤◌, List, [], ◌∷◌, length, sum_by, slice_index, false, All}
+use Rattle.std.specs.Prelude.{ℕ, ◌≡◌, ◌⊎◌, ◌+◌, ◌-◌, ◌<◌, ◌≤◌, List, [], ◌∷◌, length, sum_by, slice_index, false, All}
 use Rattle.fleet_base.specs.declared.geometry.Cell.{Cell}
 use Rattle.fleet_base.specs.Lists.{row_of}
 use Rattle.fleet_base.specs.Grid.{OccupancyGrid, is_free, distance}
 use Rattle.fleet_base.specs.Plan.{cell_at, visits_of, IsRotation}
+use Rattle.fleet_base.specs.Limits.{robot_limit, tick_limit, visit_limit}
 use Rattle.plan_check.specs.declared.fault.Large.{Large}
 use Rattle.plan_check.specs.declared.fault.Large.TheVariants.{Robots, Ticks, Visits}
 use Rattle.plan_check.specs.declared.fault.Unsound.{Unsound}
@@ -12,10 +13,10 @@ use Rattle.plan_check.specs.declared.fault.Unsound.TheVariants.{TooLarge, Blocke
 -- the first limit that a plan is above, and the number that is above it: the robots, the last listed tick of the first robot
 -- for which that is too late, or the visits of all robots
 pub data IsTooLarge (plan : List (List Cell)) (count : ℕ) : Large → Type 0 where
-  too_many_robots : 256 < length plan → count ≡ length plan → IsTooLarge plan count Robots
-  too_many_ticks : length plan ≤ 256 → (i : ℕ) → i < length plan → 4097 < length (row_of plan i) → count ≡ length (row_of plan i) - 1
-      → ((j : ℕ) → j < i → length (row_of plan j) ≤ 4097) → IsTooLarge plan count Ticks
-  too_many_visits : length plan ≤ 256 → All (λ path. length path ≤ 4097) plan → 65536 < sum_by length (visits_of plan)
+  too_many_robots : robot_limit < length plan → count ≡ length plan → IsTooLarge plan count Robots
+  too_many_ticks : length plan ≤ robot_limit → (i : ℕ) → i < length plan → tick_limit + 1 < length (row_of plan i) → count ≡ length (row_of plan i) - 1
+      → ((j : ℕ) → j < i → length (row_of plan j) ≤ tick_limit + 1) → IsTooLarge plan count Ticks
+  too_many_visits : length plan ≤ robot_limit → All (λ path. length path ≤ tick_limit + 1) plan → visit_limit < sum_by length (visits_of plan)
       → count ≡ sum_by length (visits_of plan) → IsTooLarge plan count Visits
 
 -- a fault of the plan: a limit that it is above; a listed cell that is not free; a listed step to a cell that is no neighbour;
@@ -75,8 +76,3 @@ pub record IsFirstFault (grid : OccupancyGrid) (plan : List (List Cell)) (fault 
 -- the plan has no fault
 abbrev pub IsFaultless : OccupancyGrid → List (List Cell) → Type 0
 IsFaultless grid plan = (fault : Unsound) → IsFault grid plan fault → ⊥
-
--- there is a robot, and each has a cell: what is asked of a plan before it is checked
-pub record HasRobots (plan : List (List Cell)) : Type 0 where
-  pub robots : 1 ≤ length plan
-  pub cells : All (λ path. 1 ≤ length path) plan

@@ -1,18 +1,13 @@
 -- Who is in which cell at a tick.
 use Rattle.std.specs.Prelude.{ℕ, ◌≡◌, ◌<◌, ◌≤◌, List, Option, Some, length}
-use Rattle.std.specs.declared.cmp.Ordering.{Ordering}
-use Rattle.std.specs.Ordering.{nat_cmp, ordering_then}
 use Rattle.std.specs.BTreeMap.{BTreeMap, get}
 use Rattle.fleet_base.specs.declared.geometry.Cell.{Cell}
 use Rattle.fleet_base.specs.Plan.{cell_at}
-
--- cells are ordered by row, then by column
-abbrev pub cell_cmp : Cell → Cell → Ordering
-cell_cmp a b = ordering_then (nat_cmp a.row b.row) (nat_cmp a.col b.col)
+use Rattle.fleet_base.specs.Grid.{cell_order}
 
 -- the robot that is kept for a cell
 abbrev pub occupant : BTreeMap Cell ℕ → Cell → Option ℕ
-occupant occupants cell = get cell_cmp occupants cell
+occupant occupants cell = get cell_order occupants cell
 
 -- of the robots from one number on: for each cell in which some are at the tick, the least of them, and for no other cell
 pub record HasOccupants (occupants : BTreeMap Cell ℕ) (plan : List (List Cell)) (t from : ℕ) : Type 0 where

@@ -1,8 +1,8 @@
 ghost use Rattle.std.specs.Prelude.{◌≡◌, ◌<◌, ◌≤◌, ◌-◌, ◌+◌, All, IfOk, OnOk, MatchOption, length, ⊤, ℕ};
 ghost use Rattle.fleet_base.specs.Lists.{row_of};
-ghost use Rattle.fleet_base.specs.Plan.{IsAccepted, IsWithinLimits, visits_of};
+ghost use Rattle.fleet_base.specs.Plan.{HasRobots, IsAccepted, IsWithinLimits, visits_of};
 ghost use Rattle.plan_check.specs.declared.fault.Unsound.{Unsound};
-ghost use Rattle.plan_check.specs.Faults.{HasRobots, IsFaultless, IsFirstFault};
+ghost use Rattle.plan_check.specs.Faults.{IsFaultless, IsFirstFault};
 ghost use Rattle.plan_check.specs.Ticks.{NoneBefore};
 ghost use Rattle.plan_check.specs.Occupants.{HasOccupants};
 
@@ -29,10 +29,9 @@ pub fn check(alloc: Global, grid: &Grid, raw: &RawPlan) -> Result<SoundPlan, Che
     ensures unsound { (fault : Unsound) → result ≡ Err (CheckError.Unsound fault)
         → IsFirstFault grid.now raw.now fault }
 {
-    match first_fault(alloc, grid, raw) {
-        Ok(None) => SoundPlan::from_raw(alloc, grid, raw).map_err(|_| CheckError::Memory),
-        Ok(Some(fault)) => Err(CheckError::Unsound(fault)),
-        Err(_) => Err(CheckError::Memory),
+    match first_fault(alloc, grid, raw)? {
+        None => Ok(SoundPlan::from_raw(alloc, grid, raw)?),
+        Some(fault) => Err(CheckError::Unsound(fault)),
     }
 }
 

@@ -1,4 +1,7 @@
-use fleet_base::RobotList;
+ghost use Rattle.std.specs.Prelude.{◌≡◌};
+
+use fleet_base::{Memory, RobotList};
+use thiserror::Error;
 
 /// A limit that a plan is above.
 #[derive(Clone, Copy, Debug, PartialEq, Eq)]
@@ -26,8 +29,20 @@ pub enum Unsound {
 }
 
 /// Why `check` answers no plan.
-#[derive(Debug, Drop)]
+#[derive(Debug, Drop, Error)]
 pub enum CheckError {
+    #[error("the plan cannot be carried out")]
     Unsound(Unsound),
+    #[error("out of memory")]
     Memory,
+}
+
+impl From<Memory> for CheckError {
+    ghost use Rattle.plan_check.specs.declared.fault.CheckError.TheVariants as CheckError;
+
+    ghost from_gives = { λ memory e. e ≡ CheckError.Memory };
+
+    fn from(_: Memory) -> CheckError {
+        CheckError::Memory
+    }
 }

@@ -2,10 +2,10 @@
 ghost use Rattle.std.specs.Prelude.{ℕ, ◌≡◌, ◌≤◌, ◌↔◌, All, List, slice_index};
 ghost use Rattle.fleet_base.specs.declared.geometry.Cell.{Cell};
 ghost use Rattle.fleet_base.specs.Grid.{OccupancyGrid};
-ghost use Rattle.fleet_base.specs.Plan.{IsAccepted};
+ghost use Rattle.fleet_base.specs.Plan.{HasRobots, IsAccepted};
 ghost use Rattle.plan_check.specs.declared.fault.Unsound.{Unsound};
 ghost use Rattle.plan_check.specs.declared.fault.Unsound.TheVariants.{Rotation};
-ghost use Rattle.plan_check.specs.Faults.{HasRobots, IsFaultless, IsFirstFault};
+ghost use Rattle.plan_check.specs.Faults.{IsFaultless, IsFirstFault};
 
 /// A plan with robots is sound and within the limits exactly where it has no fault.
 pub fn accepted_where_faultless()

@@ -1,19 +1,15 @@
-ghost use Rattle.std.specs.Prelude.{◌≡◌, ◌<◌, ◌≤◌, All, MatchOption, length, sum_by};
-ghost use Rattle.fleet_base.specs.Plan.{IsWithinLimits, visits_of, visits_of_path};
+ghost use Rattle.std.specs.Prelude.{◌≡◌, ◌+◌, ◌<◌, ◌≤◌, All, MatchOption, length, sum_by};
+ghost use Rattle.fleet_base.specs.Plan.{HasRobots, IsWithinLimits, visits_of, visits_of_path};
+ghost use Rattle.fleet_base.specs.Limits.{robot_limit, tick_limit};
 ghost use Rattle.plan_check.specs.declared.fault.Large.TheVariants.{Ticks};
-ghost use Rattle.plan_check.specs.Faults.{HasRobots, IsTooLarge};
+ghost use Rattle.plan_check.specs.Faults.{IsTooLarge};
 
 use crate::Large;
+use fleet_base::limits::{self, LAST_TICK, VISITS};
 use fleet_base::{Cell, RawPlan};
 
 /// The most robots of a plan.
-pub(crate) const ROBOTS: usize = 256;
-
-/// The last tick for which a cell may be listed.
-const LAST_TICK: usize = 4096;
-
-/// The most visits of all robots.
-const VISITS: usize = 65536;
+pub(crate) const ROBOTS: usize = limits::ROBOTS as usize;
 
 /// The first limit that the plan is above, with the number that is above it.
 pub(crate) fn too_large(raw: &RawPlan) -> Option<(Large, u64)>
@@ -28,7 +24,7 @@ pub(crate) fn too_large(raw: &RawPlan) -> Option<(Large, u64)>
         return Some((Large::Ticks, tick));
     }
     let visits = visits(raw);
-    if visits > VISITS {
+    if visits > VISITS as usize {
         return Some((Large::Visits, visits as u64));
     }
     None
@@ -36,12 +32,12 @@ pub(crate) fn too_large(raw: &RawPlan) -> Option<(Large, u64)>
 
 /// The last listed tick of the first robot for which that is too late.
 fn late_tick(raw: &RawPlan) -> Option<u64>
-    requires { length raw.now ≤ 256 }
-    ensures { MatchOption result (All (λ path. length path ≤ 4097) raw.now) (λ tick. IsTooLarge raw.now tick Ticks) }
+    requires { length raw.now ≤ robot_limit }
+    ensures { MatchOption result (All (λ path. length path ≤ tick_limit + 1) raw.now) (λ tick. IsTooLarge raw.now tick Ticks) }
 {
     for robot in 0..raw.robots() {
         let ticks = raw.cells(robot).len();
-        if ticks > LAST_TICK + 1 {
+        if ticks > LAST_TICK as usize + 1 {
             return Some((ticks - 1) as u64);
         }
     }
@@ -50,8 +46,8 @@ fn late_tick(raw: &RawPlan) -> Option<u64>
 
 /// The number of visits of all robots.
 fn visits(raw: &RawPlan) -> usize
-    requires robots { length raw.now ≤ 256 }
-    requires ticks { All (λ path. length path ≤ 4097) raw.now }
+    requires robots { length raw.now ≤ robot_limit }
+    requires ticks { All (λ path. length path ≤ tick_limit + 1) raw.now }
     ensures { result ≡ sum_by length (visits_of raw.now) }
 {
     let mut visits = 0;

@@ -1,7 +1,9 @@
 ghost use Rattle.std.specs.Prelude.{◌≡◌, ◌≤◌, IfOk, OnOk, Some, length};
 ghost use Rattle.std.specs.BTreeMap.{Updates};
-ghost use Rattle.plan_check.specs.Faults.{HasRobots};
-ghost use Rattle.plan_check.specs.Occupants.{HasOccupants, SharesFrom, cell_cmp, occupant};
+ghost use Rattle.fleet_base.specs.Plan.{HasRobots};
+ghost use Rattle.fleet_base.specs.Limits.{robot_limit};
+ghost use Rattle.fleet_base.specs.Grid.{cell_order};
+ghost use Rattle.plan_check.specs.Occupants.{HasOccupants, SharesFrom, occupant};
 ghost use Rattle.plan_check.specs.Ticks.{IsFirstPair};
 
 use crate::places::cell_at;
@@ -19,7 +21,7 @@ pub(crate) fn occupants_at(
     tick: usize,
 ) -> Result<(Occupants, Option<(u32, u32)>), Memory>
     requires plan { HasRobots raw.now }
-    requires robots { length raw.now ≤ 256 }
+    requires robots { length raw.now ≤ robot_limit }
     ensures occupants { IfOk result (λ found. HasOccupants found.0 raw.now tick 0) }
     ensures share { IfOk result (λ found. IsFirstPair (SharesFrom raw.now tick 0) found.1) }
 {
@@ -38,7 +40,7 @@ pub(crate) fn occupants_at(
 /// Puts a robot into a cell, and answers the one that was there.
 fn put(occupants: &mut Occupants, at: Cell, robot: u32) -> Result<Option<u32>, Memory>
     ensures former { IfOk result (λ former. former ≡ occupant occupants.old at) }
-    ensures put { OnOk result (Updates cell_cmp occupants.old occupants.new at (Some robot)) }
+    ensures put { OnOk result (Updates cell_order occupants.old occupants.new at (Some robot)) }
 {
-    occupants.insert(at, robot).map_err(|_| Memory)
+    Ok(occupants.insert(at, robot)?)
 }

@@ -1,5 +1,6 @@
 ghost use Rattle.std.specs.Prelude.{◌≡◌, ◌<◌, ◌≤◌, ◌↔◌, IsTrue, length};
 ghost use Rattle.fleet_base.specs.Grid.{OccupancyGrid, distance};
+ghost use Rattle.fleet_base.specs.Limits.{robot_limit};
 ghost use Rattle.plan_check.specs.Ticks.{IsFirstOrNone, Jumps};
 
 use crate::Unsound;
@@ -7,7 +8,7 @@ use fleet_base::{Cell, Grid, RawPlan};
 
 /// The least robot that is listed at the tick in a cell that is not free.
 pub(crate) fn blocked_at(grid: &Grid, raw: &RawPlan, tick: usize) -> Option<Unsound>
-    requires { length raw.now ≤ 256 }
+    requires { length raw.now ≤ robot_limit }
     ensures { IsFirstOrNone grid.now raw.now tick 1 result }
 {
     for robot in 0..raw.robots() {
@@ -24,7 +25,7 @@ pub(crate) fn blocked_at(grid: &Grid, raw: &RawPlan, tick: usize) -> Option<Unso
 
 /// The least robot that is listed at the tick in a cell that it cannot enter from the one before.
 pub(crate) fn jump_at(raw: &RawPlan, tick: usize) -> Option<Unsound>
-    requires { length raw.now ≤ 256 }
+    requires { length raw.now ≤ robot_limit }
     ensures { (grid : OccupancyGrid) → IsFirstOrNone grid raw.now tick 2 result }
 {
     for robot in 0..raw.robots() {

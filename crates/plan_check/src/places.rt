@@ -1,6 +1,5 @@
 ghost use Rattle.std.specs.Prelude.{◌≡◌, ◌<◌, length};
-ghost use Rattle.fleet_base.specs.Plan.{cell_at};
-ghost use Rattle.plan_check.specs.Faults.{HasRobots};
+ghost use Rattle.fleet_base.specs.Plan.{HasRobots, cell_at};
 
 use fleet_base::{Cell, RawPlan};
 

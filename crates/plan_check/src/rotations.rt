@@ -1,5 +1,6 @@
 ghost use Rattle.std.specs.Prelude.{◌≡◌, ◌<◌, ◌≤◌, ◌-◌, ℕ, false, IfOk, length, slice_index_or};
-ghost use Rattle.plan_check.specs.Faults.{HasRobots};
+ghost use Rattle.fleet_base.specs.Plan.{HasRobots};
+ghost use Rattle.fleet_base.specs.Limits.{robot_limit};
 ghost use Rattle.plan_check.specs.Occupants.{HasOccupants};
 ghost use Rattle.plan_check.specs.Ticks.{MovesApart, IsSwapFree, IsFirstRotation, IsRingFrom, IsMarked, AreOut};
 
@@ -17,7 +18,7 @@ pub(crate) fn rotation_at(
     tick: usize,
 ) -> Result<Option<RobotList>, Memory>
     requires plan { HasRobots raw.now }
-    requires robots { length raw.now ≤ 256 }
+    requires robots { length raw.now ≤ robot_limit }
     requires former { HasOccupants former.now raw.now (tick - 1) 0 }
     requires apart { MovesApart raw.now tick }
     requires swaps { IsSwapFree raw.now tick }
@@ -46,7 +47,7 @@ fn ring_from(
     marks: &mut [bool],
 ) -> Result<Option<RobotList>, Memory>
     requires plan { HasRobots raw.now }
-    requires robots { length raw.now ≤ 256 }
+    requires robots { length raw.now ≤ robot_limit }
     requires former { HasOccupants former.now raw.now (tick - 1) 0 }
     requires apart { MovesApart raw.now tick }
     requires swaps { IsSwapFree raw.now tick }

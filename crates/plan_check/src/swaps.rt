@@ -1,5 +1,6 @@
 ghost use Rattle.std.specs.Prelude.{◌≡◌, ◌<◌, ◌≤◌, ◌-◌, length};
-ghost use Rattle.plan_check.specs.Faults.{HasRobots};
+ghost use Rattle.fleet_base.specs.Plan.{HasRobots};
+ghost use Rattle.fleet_base.specs.Limits.{robot_limit};
 ghost use Rattle.plan_check.specs.Occupants.{HasOccupants};
 ghost use Rattle.plan_check.specs.Ticks.{MovesApart, IsLeader, IsPartner, IsFirstPair, Swaps};
 
@@ -10,7 +11,7 @@ use fleet_base::RawPlan;
 /// The first two robots that enter each other's cells at the tick; `former` is who was where at the tick before.
 pub(crate) fn swap_at(raw: &RawPlan, former: &Occupants, tick: usize) -> Option<(u32, u32)>
     requires plan { HasRobots raw.now }
-    requires robots { length raw.now ≤ 256 }
+    requires robots { length raw.now ≤ robot_limit }
     requires former { HasOccupants former.now raw.now (tick - 1) 0 }
     requires apart { MovesApart raw.now tick }
     ensures { IsFirstPair (Swaps raw.now tick) result }
@@ -26,7 +27,7 @@ pub(crate) fn swap_at(raw: &RawPlan, former: &Occupants, tick: usize) -> Option<
 /// The robot of a greater number with which a robot exchanges its cell at the tick.
 fn partner_of(raw: &RawPlan, former: &Occupants, robot: usize, tick: usize) -> Option<u32>
     requires plan { HasRobots raw.now }
-    requires robots { length raw.now ≤ 256 }
+    requires robots { length raw.now ≤ robot_limit }
     requires robot { robot < length raw.now }
     requires former { HasOccupants former.now raw.now (tick - 1) 0 }
     requires apart { MovesApart raw.now tick }

@@ -1,6 +1,7 @@
 ghost use Rattle.std.specs.Prelude.{◌≡◌, ◌≢◌, ◌+◌, ◌<◌, ◌≤◌, suc, true, false, length};
 ghost use Rattle.fleet_base.specs.Grid.{distance};
 ghost use Rattle.fleet_base.specs.Plan.{cell_at, IsCollisionFree};
+ghost use Rattle.fleet_base.specs.Limits.{tick_limit};
 ghost use Rattle.plan_steps.specs.Steps.{IsClear, MayStep};
 ghost use Rattle.plan_steps.specs.Traffic.{AreListed, EndsIn, IsRobotIn};
 
@@ -10,7 +11,7 @@ use fleet_base::{Cell, Grid, RawPlan};
 pub fn may_step(grid: &Grid, fixed: &RawPlan, tick: usize, from: Cell, to: Cell) -> bool
     requires paths { AreListed fixed.now }
     requires apart { IsCollisionFree fixed.now }
-    requires tick { tick ≤ 4096 }
+    requires tick { tick ≤ tick_limit }
     requires clear { IsClear fixed.now tick from }
     requires near { distance from to ≤ 1 }
     ensures yes { result ≡ true → MayStep grid.now fixed.now tick from to }
@@ -29,7 +30,7 @@ pub fn may_step(grid: &Grid, fixed: &RawPlan, tick: usize, from: Cell, to: Cell)
 fn end_of(fixed: &RawPlan, tick: usize, robot: usize) -> Cell
     requires paths { AreListed fixed.now }
     requires apart { IsCollisionFree fixed.now }
-    requires tick { tick ≤ 4096 }
+    requires tick { tick ≤ tick_limit }
     requires robot { robot < length fixed.now }
     requires moves { cell_at fixed.now robot (suc tick) ≢ cell_at fixed.now robot tick }
     ensures { EndsIn fixed.now tick (cell_at fixed.now robot tick) result }

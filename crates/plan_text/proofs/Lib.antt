@@ -9,3 +9,4 @@ pub mod Outcomes
 pub mod Canonical
 pub mod Sample
 pub mod OneFault
+pub mod Robots

@@ -3,6 +3,7 @@ ghost use Rattle.plan_text.specs.declared.fault.PlanError.TheVariants as plan_er
 ghost use Rattle.plan_text.specs.declared.fault.WritePlanError.TheVariants as write_error;
 
 use fleet_base::Memory;
+use thiserror::Error;
 
 /// What is wrong at the place of a fault.
 #[derive(Clone, Copy, Debug, PartialEq, Eq)]
@@ -16,7 +17,8 @@ pub enum PlanKind {
 }
 
 /// Where a text leaves the grammar of plans.
-#[derive(Clone, Copy, Debug, PartialEq, Eq)]
+#[derive(Clone, Copy, Debug, PartialEq, Eq, Error)]
+#[error("line {line} is no line of a plan from column {column} on")]
 pub struct PlanFault {
     /// The line, from 1.
     pub line: u32,
@@ -27,11 +29,13 @@ pub struct PlanFault {
 }
 
 /// Why a text is not read as a plan.
-#[derive(Clone, Copy, Debug, PartialEq, Eq)]
+#[derive(Clone, Copy, Debug, PartialEq, Eq, Error)]
 pub enum PlanError {
     /// The text is not in the grammar.
+    #[error("{0}")]
     Fault(PlanFault),
     /// Want of memory.
+    #[error("out of memory")]
     Memory,
 }
 
@@ -44,10 +48,12 @@ impl From<Memory> for PlanError {
 }
 
 /// Why a plan is not written.
-#[derive(Clone, Copy, Debug, PartialEq, Eq)]
+#[derive(Clone, Copy, Debug, PartialEq, Eq, Error)]
 pub enum WritePlanError {
     /// The first robot whose path is empty or has a number of more than four digits.
+    #[error("the path of robot {robot} has no text")]
     Wide { robot: u32 },
+    #[error("out of memory")]
     Memory,
 }
 

@@ -1,5 +1,6 @@
 ghost use Rattle.std.specs.Prelude.{◌≡◌, ◌<◌, ◌+◌, ◌^◌, List, length, IfOk};
 ghost use Rattle.fleet_base.specs.declared.geometry.Cell.{Cell};
+ghost use Rattle.fleet_base.specs.Plan.{HasRobots};
 ghost use Rattle.plan_text.specs.PlanText.{IsPlanText, robot_lines};
 ghost use Rattle.plan_text.specs.PlanErrors.{PlanFaultIs, ReadsAs};
 
@@ -16,6 +17,7 @@ use std::alloc::Global;
 pub fn read_plan(alloc: Global, bytes: &[u8]) -> Result<RawPlan, PlanError>
     requires { length bytes.now + 1 < 2 ^ 32 }
     ensures read { IfOk result (IsPlanText bytes.now) }
+    ensures robots { IfOk result HasRobots }
     ensures only { (plan : List (List Cell)) → IsPlanText bytes.now plan → ReadsAs plan result }
     ensures fault { PlanFaultIs (robot_lines bytes.now) result }
 {

@@ -1,11 +1,11 @@
 -- Reading a line from its front: words, and numbers behind spaces.
 use Rattle.std.specs.Prelude.{ℕ, ◌≡◌, ◌^◌, ◌<◌, ◌≤◌, List, [], ◌∷◌, ◌++◌, length, decimal, flat_map, Option, None, Some}
 use Rattle.std.specs.List.{AllByRecursion}
-use Rattle.fleet_base.specs.Bytes.{IsNumber, field}
+use Rattle.fleet_base.specs.Bytes.{IsNumber, field, fields}
 
 -- these words, and then a space and a number for each of the numbers
 abbrev pub spelled : List ℕ → List ℕ → List ℕ
-spelled words numbers = words ++ flat_map field numbers
+spelled words numbers = words ++ fields numbers
 
 -- all of them are below 2^64
 abbrev pub AllFit : List ℕ → Type 0

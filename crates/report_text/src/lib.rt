@@ -8,7 +8,7 @@ mod report;
 mod writing;
 
 pub use answer::{Answer, push_answer, read_answer};
-pub use report::{LINE_LIMIT, Malformed, read_report};
+pub use report::{Malformed, read_report};
 
 #[cfg(test)]
 mod tests;

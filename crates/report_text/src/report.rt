@@ -1,18 +1,17 @@
 ghost use Rattle.std.specs.Prelude.{◌<◌, ◌≤◌, ◌^◌, length, IfOk, OnOk, OnErr, IfErr, codes};
 ghost use Rattle.fleet_base.specs.Bytes.{IsLongestFront};
 ghost use Rattle.fleet_base.specs.declared.report.Report.{Report};
+ghost use Rattle.fleet_base.specs.Limits.{line_limit};
 ghost use Rattle.report_text.specs.Reading.{IsSpelled, Stops};
 ghost use Rattle.report_text.specs.ReportLine.{IsReportLine, IsReport, BeginsReportLine};
 
 use crate::reading::numbers_or_left;
 use fleet_base::Report;
-
-/// A report line has at most so many bytes, without its line end. The grammar itself has no line of
-/// more than 89 bytes.
-pub const LINE_LIMIT: usize = 256;
+use thiserror::Error;
 
 /// The line is no report line.
-#[derive(Clone, Copy, Debug, PartialEq, Eq)]
+#[derive(Clone, Copy, Debug, PartialEq, Eq, Error)]
+#[error("no report goes on so behind byte {at}")]
 pub struct Malformed {
     /// The length of the longest front of the line that begins some report line, in bytes.
     pub at: u32,
@@ -25,11 +24,11 @@ pub struct Malformed {
 pub fn read_report(line: &[u8]) -> Result<Report, Malformed>
     requires { length line.now < 2 ^ 32 }
     ensures read { IfOk result (IsReportLine line.now) }
-    ensures within { OnOk result (length line.now ≤ LINE_LIMIT) }
+    ensures within { OnOk result (length line.now ≤ line_limit) }
 
     ensures malformed { OnErr result ((report : Report) → IsReportLine line.now report → ⊥) }
     ensures at { IfErr result (λ e. IsLongestFront BeginsReportLine line.now e.at) }
-    ensures at_within { IfErr result (λ e. e.at ≤ LINE_LIMIT) }
+    ensures at_within { IfErr result (λ e. e.at ≤ line_limit) }
 {
     match report_or_left(line) {
         Ok(report) => Ok(report),

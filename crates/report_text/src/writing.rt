@@ -1,8 +1,8 @@
-ghost use Rattle.std.specs.Prelude.{◌≡◌, [], ◌∷◌, ◌++◌, OnOk, OnErr, flat_map};
-ghost use Rattle.fleet_base.specs.Bytes.{field, AppendsFront};
+ghost use Rattle.std.specs.Prelude.{◌≡◌, [], ◌∷◌, ◌++◌, OnOk, OnErr};
+ghost use Rattle.fleet_base.specs.Bytes.{AppendsFront};
 ghost use Rattle.report_text.specs.Reading.{spelled};
 
-use fleet_base::{Memory, Text, push_bytes, push_number};
+use fleet_base::{Memory, Text, push_bytes, push_fields};
 
 /// Appends the line of these words and numbers and its line end. For want of memory some of it is
 /// missing at the end.
@@ -14,16 +14,4 @@ pub fn push_line(out: &mut Text, words: &[u8], numbers: &[u64]) -> Result<(), Me
     push_bytes(out, words)?;
     push_fields(out, numbers)?;
     out.push(b'\n')
-}
-
-/// Appends a space and each number.
-fn push_fields(out: &mut Text, numbers: &[u64]) -> Result<(), Memory>
-    ensures ok { OnOk result (out.new ≡ out.old ++ flat_map field numbers.now) }
-    ensures err { OnErr result (AppendsFront out.old out.new (flat_map field numbers.now)) }
-{
-    for number in numbers {
-        out.push(b' ')?;
-        push_number(out, *number)?;
-    }
-    Ok(())
 }

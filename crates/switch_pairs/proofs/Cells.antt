@@ -8,9 +8,9 @@ use Rattle.std.specs.Cmp.{IsTotalOrder, then_total, on_total, nat_cmp_total}
 use Rattle.std.specs.List.Sorted.{IsSortedByKey, IsNonDecreasingBy, IsPartitionedBy, IsPartitionPoint}
 use Rattle.std.proofs.lemmas.List.Sorted.{searchable_from_sorted}
 use Rattle.fleet_base.specs.declared.geometry.Cell.{Cell}
-use Rattle.fleet_base.specs.Grid.{same_cell}
+use Rattle.fleet_base.specs.Grid.{same_cell, cell_order}
 use Rattle.switch_pairs.specs.declared.stops.Stop.{Stop}
-use Rattle.switch_pairs.specs.Stops.{cell_order, is_at}
+use Rattle.switch_pairs.specs.Stops.{is_at}
 use Rattle.switch_pairs.proofs.Lists.{filter_alike, filter_both}
 use Rattle.switch_pairs.proofs.Points.{before_point, after_point}
 

@@ -15,8 +15,9 @@ use Rattle.fleet_base.specs.Plan.{AreRoutes}
 use Rattle.fleet_base.proofs.Members.{head_in, tail_in, from_flat_map}
 use Rattle.fleet_base.proofs.Sorting.{InOrder, here_in}
 use Rattle.fleet_base.proofs.AllVisits.{from_map}
+use Rattle.fleet_base.specs.Grid.{cell_order}
 use Rattle.switch_pairs.specs.declared.stops.Stop.{Stop}
-use Rattle.switch_pairs.specs.Stops.{stop_of, stops_of, all_stops, cell_order, is_at, is_above, AreStops}
+use Rattle.switch_pairs.specs.Stops.{stop_of, stops_of, all_stops, is_at, is_above, AreStops}
 use Rattle.switch_pairs.proofs.Classes.{from_run}
 use Rattle.switch_pairs.proofs.Lists.{filter_alike}
 use Rattle.switch_pairs.proofs.Cells.{tied_cells}

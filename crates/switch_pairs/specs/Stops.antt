@@ -7,8 +7,9 @@ use Rattle.fleet_base.specs.declared.geometry.Cell.{Cell}
 use Rattle.fleet_base.specs.declared.geometry.Visit.{Visit}
 use Rattle.fleet_base.specs.declared.geometry.PlannedVisit.{PlannedVisit}
 use Rattle.fleet_base.specs.Lists.{range, row_of}
-use Rattle.fleet_base.specs.Grid.{same_cell}
+use Rattle.fleet_base.specs.Grid.{same_cell, cell_order}
 use Rattle.fleet_base.specs.Plan.{cell_of, plan_tick_of}
+use Rattle.fleet_base.specs.Limits.{visit_limit}
 use Rattle.switch_pairs.specs.declared.stops.Stop.{Stop}
 
 -- a visit with its cell and its plan tick
@@ -22,10 +23,6 @@ stops_of routes i = map (λ k. stop_of routes (record { robot = i; index = k }))
 -- all visits, by robot, then by number
 abbrev pub all_stops : List (List PlannedVisit) → List Stop
 all_stops routes = flat_map (stops_of routes) (range 0 (length routes))
-
--- cells are ordered by row, then by column
-abbrev pub cell_order : Cell → Cell → Ordering
-cell_order a b = ordering_then (nat_cmp a.row b.row) (nat_cmp a.col b.col)
 
 -- whether a visit is at a cell
 abbrev pub is_at : Cell → Stop → Bool
@@ -47,5 +44,5 @@ pub record AreByCell (stops : List Stop) : Type 0 where
 -- the visits of the routes by their cells, those at one cell in the order of the routes
 pub record AreStops (routes : List (List PlannedVisit)) (stops : List Stop) : Type 0 where
   pub by_cell : AreByCell stops
-  pub few : length stops ≤ 65536
+  pub few : length stops ≤ visit_limit
   pub each : (c : Cell) → filter (is_at c) stops ≡ filter (is_at c) (all_stops routes)

@@ -1,12 +1,15 @@
 ghost use Rattle.std.specs.Prelude.{◌≡◌};
 
 use fleet_base::Memory;
+use thiserror::Error;
 
 /// Why `pairs` answers no table.
-#[derive(Clone, Copy, Debug, PartialEq, Eq)]
+#[derive(Clone, Copy, Debug, PartialEq, Eq, Error)]
 pub enum PairsError {
-    /// The plan has more than 1,048,576 pairs: so many.
+    /// The plan has more pairs than there may be: so many.
+    #[error("{count} pairs are too many")]
     TooMany { count: u64 },
+    #[error("out of memory")]
     Memory,
 }
 

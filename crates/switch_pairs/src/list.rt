@@ -15,7 +15,7 @@ pub fn list_pairs(alloc: Global, plan: &SoundPlan, stops: &[Stop]) -> Result<Vec
     let mut list = Vec::new(alloc);
     for robot in 0..plan.robots() {
         let found = sorted_pairs(alloc, plan, stops, robot)?;
-        list.extend_from_slice(&found).map_err(|_| Memory)?;
+        list.extend_from_slice(&found)?;
     }
     Ok(list)
 }
@@ -32,10 +32,8 @@ fn sorted_pairs(
     ensures { IfOk result (λ list. list.items ≡ pairs_of_lower plan.now robot) }
 {
     let mut found = found_pairs(alloc, plan, stops, robot)?;
-    match found.sort_by_key(|pair| pair.higher.robot) {
-        Ok(()) => Ok(found),
-        Err(_) => Err(Memory),
-    }
+    found.sort_by_key(|pair| pair.higher.robot)?;
+    Ok(found)
 }
 
 /// The pairs in which a robot is the lower one, by its visits.
@@ -62,7 +60,7 @@ fn push_pairs(found: &mut Vec<Pair>, stop: Stop, higher: &[Stop]) -> Result<(), 
     ensures { OnOk result (found.new.items ≡ found.old.items ++ map (pair_of_stops stop) higher.now) }
 {
     for other in higher {
-        found.push(pair(stop, *other)).map_err(|_| Memory)?;
+        found.push(pair(stop, *other))?;
     }
     Ok(())
 }

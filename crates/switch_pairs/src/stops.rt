@@ -2,7 +2,9 @@ ghost use Rattle.std.specs.Prelude.{◌≡◌, ◌++◌, ◌<◌, ◌≤◌, IfO
 ghost use Rattle.std.specs.List.Sorted.{IsSortedByKey};
 ghost use Rattle.fleet_base.specs.Lists.{row_of};
 ghost use Rattle.fleet_base.specs.Plan.{IsOnRoute};
-ghost use Rattle.switch_pairs.specs.Stops.{stop_of, stops_of, all_stops, cell_order, is_at, higher_stops, AreByCell, AreStops};
+ghost use Rattle.fleet_base.specs.Grid.{cell_order};
+ghost use Rattle.fleet_base.specs.Limits.{visit_limit};
+ghost use Rattle.switch_pairs.specs.Stops.{stop_of, stops_of, all_stops, is_at, higher_stops, AreByCell, AreStops};
 
 use fleet_base::{Cell, Memory, SoundPlan, Visit};
 use std::alloc::Global;
@@ -21,10 +23,8 @@ pub fn stops_by_cell(alloc: Global, plan: &SoundPlan) -> Result<Vec<Stop>, Memor
 {
     let _robots = plan.robots();
     let mut stops = plan_stops(alloc, plan)?;
-    match stops.sort_by_key(|stop| stop.cell) {
-        Ok(()) => Ok(stops),
-        Err(_) => Err(Memory),
-    }
+    stops.sort_by_key(|stop| stop.cell)?;
+    Ok(stops)
 }
 
 /// All visits of the plan, by robot, then by number.
@@ -45,7 +45,7 @@ fn push_stops(stops: &mut Vec<Stop>, plan: &SoundPlan, robot: u32) -> Result<(),
 {
     for index in 0..visits(plan, robot) {
         let stop = stop_at(plan, Visit { robot, index });
-        stops.push(stop).map_err(|_| Memory)?;
+        stops.push(stop)?;
     }
     Ok(())
 }
@@ -54,7 +54,7 @@ fn push_stops(stops: &mut Vec<Stop>, plan: &SoundPlan, robot: u32) -> Result<(),
 pub fn visits(plan: &SoundPlan, robot: u32) -> u32
     requires { robot < length plan.now }
     ensures count { result ≡ length (row_of plan.now robot) }
-    ensures few { result ≤ 65536 }
+    ensures few { result ≤ visit_limit }
 {
     let _robots = plan.robots();
     plan.last(robot) + 1

@@ -5,7 +5,7 @@ use Rattle.std.proofs.lemmas.Option.{MatchOption-at_some, MatchOption-at_none, s
 use Rattle.std.proofs.lemmas.Slice.Eq.{strip_prefix_is}
 use Rattle.fleet_base.specs.Bytes.{file_lines, numeral}
 use Rattle.map_text.proofs.header.read_side.Goals as goal
-use Rattle.map_text.proofs.header.read_side.Goals.{then-value-eq0-via-then-value-eq0, then-value-eq0-via-else-value-eq0+then-value-gt-LARGEST}
+use Rattle.map_text.proofs.header.read_side.Goals.{then-value-eq0-via-then-value-eq0, then-value-eq0-via-else-value-eq0+then-value-gt-SPAN}
 
 -- a first line that is a label and digits
 named : (lines rest : List (List ℕ)) (line label digits : List ℕ) (n : ℕ) → lines ≡ line ∷ rest → line ≡ label ++ digits → digits ≡ numeral n → lines ≡ (label ++ numeral n) ∷ rest
@@ -32,7 +32,7 @@ returns-then-value-eq0-clause-err c =
         λ size.
             elim c.then-value-eq0.branch [
               | then-value-eq0-via-then-value-eq0 w ↦ omega (arith, found.2)
-              | then-value-eq0-via-else-value-eq0+then-value-gt-LARGEST w ↦ omega (arith, found.2)
+              | then-value-eq0-via-else-value-eq0+then-value-gt-SPAN w ↦ omega (arith, found.2)
             ],
       ),
     )

@@ -9,8 +9,8 @@ returns-then-robots-gt-ROBOTS c =
     let many : 256 < length c.args.raw.now = omega arith in
     too_many_robots many c.robots-robots.ensures
 
-pub returns-then-visits-gt-VISITS : goal.returns-then-visits-gt-VISITS
-returns-then-visits-gt-VISITS c =
+pub returns-then-visits : goal.returns-then-visits
+returns-then-visits c =
     let few : length c.args.raw.now ≤ 256 = omega arith in
     let many : 65536 < sum_by length (visits_of c.args.raw.now) = omega arith in
     too_many_visits few c.in_default.ensures many c.visits-visits.ensures

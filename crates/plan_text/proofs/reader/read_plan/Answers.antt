@@ -1,9 +1,10 @@
 use Rattle.std.proofs.Common.{◌≡◌, ◌+◌, ◌≤◌, length, sym, ◌∙◌, ap, subst, refl, arith}
 use Rattle.std.proofs.lemmas.List.{length_push}
 use Rattle.std.proofs.lemmas.Result.{err_from_is_err_and}
-use Rattle.plan_text.proofs.Reading.{IsReading, reading_more, empty_refuses}
+use Rattle.plan_text.proofs.Reading.{IsReading, reading_all, reading_more, empty_refuses}
 use Rattle.plan_text.proofs.Outcomes.{error_of_line, error_refuses, reading_empty, reading_only}
 use Rattle.plan_text.proofs.reader.read_plan.Goals as goal
+use Rattle.plan_text.proofs.Robots.{read_plan_has_robots}
 
 pub returns-in_err-path-clause-only : goal.returns-in_err-path-clause-only
 returns-in_err-path-clause-only c =
@@ -34,3 +35,8 @@ returns-then-robot-eq0-clause-fault c =
 
 pub returns-clause-only : goal.returns-clause-only
 returns-clause-only c = λ plan is. reading_only c.args.bytes.now c.loop-line.rest.now c.loop-line.plan plan c.in_default.ensures.none c.loop-line.invariant.0 is
+
+pub returns-clause-robots : goal.returns-clause-robots
+returns-clause-robots c =
+    let some : 1 ≤ length c.loop-line.plan = omega (arith, c.loop-line.invariant.1, c.if-robot-eq0.false) in
+    read_plan_has_robots c.args.bytes.now c.loop-line.plan (record { some = some; lines = reading_all c.args.bytes.now c.loop-line.rest.now c.loop-line.plan c.in_default.ensures.none c.loop-line.invariant.0 })

@@ -9,7 +9,7 @@ use Rattle.switch_pairs.proofs.list.list_pairs.Goals as goal
 pub loop-robot-preserved : goal.loop-robot-preserved
 loop-robot-preserved c =
     let more = one_robot_more c.args.plan.now c.loop-robot.robot in
-    grind (arith, common_steps, more, c.loop-robot.invariant, c.in_ok-found.ensures, c.deref.ensures.value, c.extend_from_slice.ensures.items, c.in_ok-map_err.ensures.variant)
+    grind (arith, common_steps, more, c.loop-robot.invariant, c.in_ok-found.ensures, c.deref.ensures.value, c.extend_from_slice.ensures.items)
 
 pub returns : goal.returns
 returns c =

@@ -2,9 +2,9 @@ use Rattle.std.proofs.Common.{rules, subst, sym}
 use Rattle.std.specs.Ordering.{is_lt, is_le, ordering_index}
 use Rattle.std.specs.List.Sorted.{IsNonDecreasingBy}
 use Rattle.std.proofs.lemmas.List.Sorted.{IsPartitionPoint-from_clause, IsNonDecreasingBy-drop}
-use Rattle.switch_pairs.specs.Stops.{cell_order}
 use Rattle.switch_pairs.proofs.Cells.{run_is, rest_is, parted_lt, parted_le, rising}
 use Rattle.switch_pairs.proofs.stops.at_cell.Goals as goal
+use Rattle.fleet_base.specs.Grid.{cell_order}
 
 pub returns : goal.returns
 returns c =
