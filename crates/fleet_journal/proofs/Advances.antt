@@ -123,3 +123,7 @@ no_frame_bad l is none = record { behind = drop 1 l; is_open = open_gate_is l is
 pub no_entry_bad : (l payload : List ℕ) (gate : ℕ) → get_or l 0 0 ≡ 1 → HasFrame l gate payload → ¬ IsEntryPayload payload → IsBadRecord l
 no_entry_bad l payload gate is frame none =
     record { behind = drop 1 l; is_open = open_gate_is l is; no_entry = λ other grammar other_frame. none (subst IsEntryPayload (frame_one l 1 gate other payload other_frame frame) grammar) }
+
+-- an open gate, and behind it never an entry
+pub never_entry_bad : (l : List ℕ) → get_or l 0 0 ≡ 1 → ((gate : ℕ) (payload : List ℕ) → IsEntryPayload payload → ¬ HasFrame l gate payload) → IsBadRecord l
+never_entry_bad l is none = record { behind = drop 1 l; is_open = open_gate_is l is; no_entry = λ payload grammar frame. none 1 payload grammar frame }

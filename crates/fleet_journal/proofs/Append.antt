@@ -1,5 +1,6 @@
 -- What a stop leaves at each moment of an `append`, one device call after another.
-use Rattle.std.proofs.Common.{◌≡◌, ◌⊎◌, inl, inr, ℕ, ◌+◌, List, [], ◌∷◌, ◌++◌, length, get_or, drop, sym, ◌∙◌, ap, subst, arith, length-append}
+use Rattle.std.proofs.Common.{◌≡◌, ◌⊎◌, inl, inr, ℕ, ◌+◌, List, [], ◌∷◌, ◌++◌, length, get_or, drop, sym, ◌∙◌, ap, subst, arith, append_assoc, length-append}
+use Rattle.std.proofs.lemmas.List.{append-nil, drop_all, drop_at}
 use Rattle.station_api.specs.Scene.{Scene, side_of, other_of}
 use Rattle.station_api.specs.Clock.{Clock, LeavesOnly, LeavesNow, IsKept}
 use Rattle.station_api.specs.Disk.{Torn, IsQuiet, IsStep, IsSynced, Writes, written}
@@ -10,9 +11,10 @@ use Rattle.journal_frame.specs.Texts.{Fits}
 use Rattle.journal_frame.specs.Frames.{front, frame_text, framed, HasEntries}
 use Rattle.fleet_journal.specs.Sides.{IsBeside, KeepsOrAdds}
 use Rattle.fleet_journal.specs.Standing.{Standing}
-use Rattle.fleet_journal.specs.Journal.{Stands}
-use Rattle.fleet_journal.proofs.Bytes.{torn_behind, torn_at, written_behind, written_at}
-use Rattle.fleet_journal.proofs.Frames.{closed_again, opened_before, behind_gate, front-push}
+use Rattle.fleet_journal.specs.Journal.{Stands, EndsShut}
+use Rattle.fleet_journal.proofs.Bytes.{torn_behind, torn_at, written_behind, written_at, written_over}
+use Rattle.journal_frame.proofs.FrameLaws.{length-framed}
+use Rattle.fleet_journal.proofs.Frames.{length-frame_text, closed_again, opened_before, behind_gate, front-push}
 
 -- An append to a journal that stands at its closed gate
 pub record Begins (journal : Standing) (header : HeaderParts) (entries : List (List ℕ)) (payload text : List ℕ) (old : Clock) : Type 0 where
@@ -123,3 +125,26 @@ module _ (journal : Standing) (header : HeaderParts) (entries : List (List ℕ))
       → IsStep side (Torn journal.place 1) k2 k3 → Writes side journal.place (1 ∷ []) k2 k3 → IsQuiet k3 k4
       → Stands (record { side = journal.side; place = journal.place + length text; passed = journal.passed + 1 }) header (entries ++ payload ∷ []) k4.seen
   adds k1 k2 k3 k4 step writes quiet gate opens quiet_too = added k2 (stage_on k1 k2 quiet (staged k1 step writes)) k3 k4 gate opens quiet_too
+
+  -- both writes are as one
+  pub writes_all : (k1 k2 k3 k4 : Clock) → Writes side (journal.place + 1) text old k1 → IsQuiet k1 k2 → Writes side journal.place (1 ∷ []) k2 k3 → IsQuiet k3 k4 → Writes side journal.place (1 ∷ text) old k4
+  writes_all k1 k2 k3 k4 frame quiet gate quiet_too =
+      let behind_is : side_of side k2.seen ≡ before ++ has.closed ∷ (text ++ drop (journal.place + 1 + length text) (before ++ has.closed ∷ has.rest)) =
+      ap (side_of side) quiet.seen ∙ frame ∙ ap (λ (l : List ℕ). written (journal.place + 1) text l) has.bytes_are ∙ written_behind before has.closed has.rest journal.place begins.stands.place text in
+      ap (side_of side) quiet_too.seen ∙ gate ∙ ap (λ (l : List ℕ). written journal.place (1 ∷ []) l) behind_is
+      ∙ written_at before has.closed (text ++ drop (journal.place + 1 + length text) (before ++ has.closed ∷ has.rest)) journal.place begins.stands.place 1
+      ∙ sym (written_over before has.closed has.rest journal.place begins.stands.place 1 text)
+      ∙ ap (λ (l : List ℕ). written journal.place (1 ∷ text) l) (sym has.bytes_are)
+
+  -- a side that ended at its closed gate ends at the next one
+  pub ends_shut : (new : Clock) → Writes side journal.place (1 ∷ text) old new → length (side_of side old.seen) ≡ journal.place + 1
+      → EndsShut (record { side = journal.side; place = journal.place + length text; passed = journal.passed + 1 }) new.seen
+  ends_shut new writes short =
+      let is : side_of side new.seen ≡ (before ++ 1 ∷ framed payload) ++ 0 ∷ [] =
+      writes ∙ ap (λ (l : List ℕ). written journal.place (1 ∷ text) l) has.bytes_are ∙ written_over before has.closed has.rest journal.place begins.stands.place 1 text
+      ∙ ap (λ (l : List ℕ). before ++ 1 ∷ (text ++ l)) (drop_all (journal.place + 1 + length text) (before ++ has.closed ∷ has.rest) (omega (arith, short, ap length has.bytes_are)))
+      ∙ ap (λ (l : List ℕ). before ++ 1 ∷ l) (append-nil text ∙ begins.is_text)
+      ∙ sym (append_assoc before (1 ∷ framed payload) (0 ∷ [])) in
+      ap (λ (l : List ℕ). drop (journal.place + length text) l) is
+      ∙ drop_at (before ++ 1 ∷ framed payload) (0 ∷ []) (journal.place + length text)
+      (omega (arith, begins.stands.place, ap length begins.is_text, length-frame_text payload, length-framed payload, length-append before (1 ∷ framed payload)))

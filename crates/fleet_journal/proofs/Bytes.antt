@@ -1,6 +1,6 @@
 -- What writes behind a byte, and over it, leave of a side.
 use Rattle.std.proofs.Common.{◌≡◌, ℕ, ◌+◌, List, [], ◌∷◌, ◌++◌, length, get_or, take, drop, sym, ◌∙◌, ap, arith, append_assoc, length-append, take-append-drop}
-use Rattle.std.proofs.lemmas.List.{take_at, drop_at, drop_more}
+use Rattle.std.proofs.lemmas.List.{take_at, drop_at, drop_more, length-drop}
 use Rattle.station_api.specs.Disk.{written, Torn}
 
 -- bytes in front, one byte at the place, and a rest
@@ -8,6 +8,10 @@ pub record HasByte (front : List ℕ) (bytes : List ℕ) : Type 0 where
   pub byte : ℕ
   pub rest : List ℕ
   pub bytes_are : bytes ≡ front ++ byte ∷ rest
+
+-- bytes that end with one byte at a place are one longer
+pub ends_there : (bytes : List ℕ) (place : ℕ) → drop place bytes ≡ 0 ∷ [] → length bytes ≡ place + 1
+ends_there bytes place is = omega (arith, ap length is, length-drop place bytes)
 
 module _ (front : List ℕ) (byte : ℕ) (rest : List ℕ) (place : ℕ) (at_place : place ≡ length front) where
   regroup : front ++ byte ∷ rest ≡ (front ++ byte ∷ []) ++ rest
@@ -55,3 +59,10 @@ module _ (front : List ℕ) (byte : ℕ) (rest : List ℕ) (place : ℕ) (at_pla
       ap (λ (l : List ℕ). l ++ (new ∷ []) ++ drop (place + 1) (front ++ byte ∷ rest)) take_place
       ∙ ap (λ (l : List ℕ). front ++ (new ∷ []) ++ l) drop_more_place
       ∙ append_assoc front (new ∷ []) rest
+
+  -- a byte and what stands behind it, written at once
+  pub written_over : (new : ℕ) (bytes : List ℕ) → written place (new ∷ bytes) (front ++ byte ∷ rest) ≡ front ++ new ∷ (bytes ++ drop (place + 1 + length bytes) (front ++ byte ∷ rest))
+  written_over new bytes =
+      ap (λ (l : List ℕ). l ++ (new ∷ bytes) ++ drop (place + length (new ∷ bytes)) (front ++ byte ∷ rest)) take_place
+      ∙ ap (λ (k : ℕ). front ++ (new ∷ bytes) ++ drop k (front ++ byte ∷ rest)) (omega arith)
+      ∙ append_assoc front (new ∷ bytes) (drop (place + 1 + length bytes) (front ++ byte ∷ rest))

@@ -87,7 +87,7 @@ pub gate_cleared : (old new : List ℕ) → HasGate old new → IsCleared old ne
 gate_cleared old new is = inr (inl (subst IsBlank (sym is) tt))
 
 pub long_cleared : (old new : List ℕ) → ClearsLong old new → IsCleared old new
-long_cleared old new is = is.1
+long_cleared old new is = is.cleared
 
 -- a clean side has at most one byte
 pub clean_short : (bytes : List ℕ) → IsClean bytes → length bytes ≤ 1

@@ -1,6 +1,6 @@
 -- What a stop leaves at each moment of a `create`, one part after another.
-use Rattle.std.proofs.Common.{◌≡◌, ◌≢◌, inl, inr, ⊎_elim, ℕ, List, [], ◌∷◌, ◌++◌, length, ◌^◌, ◌<◌, refl, sym, ◌∙◌, ap, subst, arith, length-append}
-use Rattle.std.proofs.lemmas.List.{append-nil}
+use Rattle.std.proofs.Common.{◌≡◌, ◌≢◌, inl, inr, ⊎_elim, ℕ, List, [], ◌∷◌, ◌++◌, length, ◌^◌, ◌<◌, ◌≤◌, drop, refl, sym, ◌∙◌, ap, subst, arith, length-append}
+use Rattle.std.proofs.lemmas.List.{append-nil, drop_at}
 use Rattle.station_api.specs.Scene.{Scene}
 use Rattle.station_api.specs.Clock.{Clock, LeavesOnly}
 use Rattle.station_api.specs.Disk.{Changes}
@@ -13,7 +13,7 @@ use Rattle.journal_frame.specs.Frames.{framed, frame_text, HasEntries, IsBlank}
 use Rattle.journal_frame.proofs.FrameLaws.{length-framed}
 use Rattle.fleet_journal.specs.Sides.{Keeps, IsBlankJournal, BlankOrCreated}
 use Rattle.fleet_journal.specs.Standing.{Standing}
-use Rattle.fleet_journal.specs.Journal.{IsHeaderText, Stands}
+use Rattle.fleet_journal.specs.Journal.{IsHeaderText, Stands, EndsShut}
 use Rattle.fleet_journal.specs.Clearing.{IsSameButGate, IsCleared, Clears, ClearsLong, HasGate, HasText, GetsText}
 use Rattle.fleet_journal.proofs.Frames.{length-frame_text}
 use Rattle.fleet_journal.proofs.Clearing.{clean_cleared, gate_cleared, long_cleared}
@@ -115,3 +115,16 @@ module _ (header : HeaderParts) (text : List ℕ) (of_header : IsHeaderText text
     where
       one : length keeps.payload ≡ length payload
       one = ap length (payload_one keeps.payload payload header keeps.is_header of_header.1)
+
+  -- the text behind an open gate ends with a closed one
+  pub ends_shut : (journal : Standing) (scene : Scene) → scene.a ≡ 1 ∷ text → journal ≡ record { side = A; place = length text; passed = 0 } → EndsShut journal scene
+  ends_shut journal scene bytes is =
+      subst (λ (j : Standing). EndsShut j scene) (sym is)
+      (ap (λ (l : List ℕ). drop (length text) l) (bytes ∙ ap (λ (l : List ℕ). 1 ∷ l) of_header.2)
+      ∙ drop_at (1 ∷ framed payload) (0 ∷ []) (length text) (omega (arith, ap length of_header.2, length-frame_text payload, length-framed payload)))
+
+-- the other side, where it had at most one byte
+pub short_stays : (s0 s1 s2 s3 s4 : Scene) (text : List ℕ) → Changes A Clears s0 s1 → Changes A HasGate s1 s2 → Changes A (HasText text) s2 s3 → Changes B ClearsLong s3 s4 → length s0.b ≤ 1 → s4.b ≡ s0.b
+short_stays s0 s1 s2 s3 s4 text cleared gated put last short =
+    let same : s3.b ≡ s0.b = put.off ∙ gated.off ∙ cleared.off in
+    last.on.stays (omega (arith, ap length same, short)) ∙ same

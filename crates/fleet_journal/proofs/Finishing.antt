@@ -95,3 +95,9 @@ module _ (journal : Standing) (header : HeaderParts) (entries : List (List ℕ))
   ends s0 s1 s2 stands cleaned cuts =
       let is = clean s0 s1 stands cleaned in
       omega (arith, ap length (cut_to s1 s2 is cuts), is.place, length-append (front is.keeps.has.gate is.keeps.payload entries) (is.keeps.has.closed ∷ []))
+
+  pub cuts_side : (s0 s1 s2 : Scene) → Changes other Clears s0 s1 → Changes side (IsCut (journal.place + 1)) s1 s2 → side_of side s2 ≡ take (journal.place + 1) (side_of side s0)
+  cuts_side s0 s1 s2 cleaned cuts =
+      let at_other = subst (λ (o : DiskSide). Changes o Clears s0 s1) is_other cleaned in
+      let same : side_of side s1 ≡ side_of side s0 = subst (λ (o : DiskSide). side_of o s1 ≡ side_of o s0) (twice side) at_other.off in
+      cuts.on ∙ ap (λ (l : List ℕ). take (journal.place + 1) l) same

@@ -7,6 +7,7 @@ pub mod Clearing
 pub mod Create
 pub mod Finishing
 pub mod Frames
+pub mod Measures
 pub mod OneJournal
 pub mod Openings
 pub mod Pieces

@@ -33,9 +33,11 @@ IsCut n old new = new ≡ take n old
 abbrev pub Clears : List ℕ → List ℕ → Type 0
 Clears old new = IsClean new
 
--- the side has at most one byte now, by what clearing may leave
-abbrev pub ClearsLong : List ℕ → List ℕ → Type 0
-ClearsLong old new = (length new ≤ 1) × IsCleared old new
+-- The side has at most one byte now, by what clearing may leave; one of at most one byte is left as it was.
+pub record ClearsLong (old new : List ℕ) : Type 0 where
+  pub short : length new ≤ 1
+  pub cleared : IsCleared old new
+  pub stays : length old ≤ 1 → new ≡ old
 
 -- the side is one closed gate
 abbrev pub HasGate : List ℕ → List ℕ → Type 0

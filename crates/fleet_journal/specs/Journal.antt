@@ -1,5 +1,5 @@
 -- Where a journal stands on its side, and what it has there.
-use Rattle.std.specs.Prelude.{◌≡◌, ◌≢◌, ℕ, List, ◌∷◌, ◌++◌, length}
+use Rattle.std.specs.Prelude.{◌≡◌, ◌≢◌, ℕ, List, [], ◌∷◌, ◌++◌, length, drop}
 use Rattle.std.specs.List.{AllByRecursion}
 use Rattle.station_api.specs.Scene.{Scene, side_of, other_of}
 use Rattle.journal_frame.specs.declared.header.HeaderParts.{HeaderParts}
@@ -37,3 +37,7 @@ pub record Stands (journal : Standing) (header : HeaderParts) (entries : List (L
   pub keeps : Keeps journal.side header entries scene
   pub place : journal.place ≡ length (front keeps.has.gate keeps.payload entries)
   pub passed : journal.passed ≡ length entries
+
+-- the journal's side ends at its gate, which is 0
+abbrev pub EndsShut : Standing → Scene → Type 0
+EndsShut journal scene = drop journal.place (side_of journal.side scene) ≡ 0 ∷ []

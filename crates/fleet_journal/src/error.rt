@@ -3,6 +3,7 @@ ghost use Rattle.fleet_journal.specs.declared.error.JournalError.TheVariants.{St
 
 use fleet_base::Memory;
 use station_api::Failed;
+use std::alloc::AllocError;
 use thiserror::Error;
 
 /// Why a call on a journal was refused.
@@ -37,6 +38,14 @@ impl From<Memory> for JournalError {
     ghost from_gives = { λ _ e. e ≡ OutOfMemory };
 
     fn from(_: Memory) -> JournalError {
+        JournalError::Memory
+    }
+}
+
+impl From<AllocError> for JournalError {
+    ghost from_gives = { λ _ e. e ≡ OutOfMemory };
+
+    fn from(_: AllocError) -> JournalError {
         JournalError::Memory
     }
 }

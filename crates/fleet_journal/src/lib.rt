@@ -4,14 +4,14 @@
 
 mod error;
 mod found;
-mod frame;
 mod journal;
 pub mod laws;
+mod measure;
 mod reading;
 mod sides;
 #[cfg(test)]
 mod tests;
 
 pub use error::JournalError;
-pub use frame::framed;
 pub use journal::{Finding, Journal, OtherSide};
+pub use journal_frame::framed;

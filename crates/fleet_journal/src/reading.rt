@@ -76,8 +76,5 @@ fn zeros(alloc: Global, count: u32) -> Result<Vec<u8>, JournalError>
     ensures length { IfOk result (λ v. length v.items ≡ count) }
     ensures only { IfErr result (λ e. e ≡ JournalError.Memory) }
 {
-    match vec![in alloc; 0; count as usize] {
-        Ok(zeros) => Ok(zeros),
-        Err(_) => Err(JournalError::Memory),
-    }
+    Ok(vec![in alloc; 0; count as usize]?)
 }

@@ -66,7 +66,3 @@ module _ (g : Graph) (x : FleetState) (report : Report) (switched : List PairId)
 pub proposes : (g : Graph) (x : FleetState) (report : Report) (switched : List PairId) → IsEntryPair report switched → (judgement_of x report ≡ Accept) × (x.count < 2 ^ 62) → All (λ q. q.0 < length g.pairs) switched → IsProposal g x report switched
 proposes g x (Arrive i k tick) switched (payload, is) (accepted, count) there = record { accepted = accepted; count = count; ascending = subst (λ (qs : List PairId). IsStrictlyIncreasing (map (λ q. q.0) qs)) (sym is.order) (λ n h. absurd (omega (arith, h))); there = there; switches = is.order }
 proposes g x (Delay i k extra tick) switched (payload, is) (accepted, count) there = record { accepted = accepted; count = count; ascending = is.order; there = there; switches = tt }
-
-pub step_counts : (g : Graph) (x : FleetState) (report : Report) (switched : List PairId) (releases : List Visit) (x' : FleetState) → Step g x report switched releases x' → x'.count ≡ x.count + 1
-step_counts g x (Arrive i k tick) switched releases x' step = ap (λ (y : FleetState). y.count) step.state.others
-step_counts g x (Delay i k extra tick) switched releases x' step = ap (λ (y : FleetState). y.count) step.state.others

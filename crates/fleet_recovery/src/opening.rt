@@ -52,9 +52,11 @@ pub fn recover<T: Station>(
     // same state. Only a fault of the station comes before that moment.
     ensures synced { T.tells → SyncsFirst plan.now (record { map = map.now; plan = text.now }) (T.clock station.old) (T.clock station.new) ⊎ (IsErrOf result (RecoverError.Journal JournalError.Station) × IsQuiet (T.clock station.old) (T.clock station.new)) }
 
-    // At Ok the state is that for which the sides stood, and station and journal are at rest with it.
+    // At Ok the state is that for which the sides stood, and station and journal are at rest with it. The side taken ends
+    // at its closed gate.
     ensures restores { T.tells → IfOk result (λ opened. Opens plan.now (record { map = map.now; plan = text.now }) (T.clock station.old).seen opened.0 opened.1.place) }
     ensures rests { T.tells → IfOk result (λ opened. IsAtRest plan.now (record { map = map.now; plan = text.now }) opened.1 opened.0 (T.clock station.new)) }
+    ensures ends { T.tells → IfOk result (λ opened. length (side_of opened.1.side (T.clock station.new).seen) ≡ opened.1.place + 1) }
     ensures unsent { T.tells → (T.clock station.new).seen.sent ≡ (T.clock station.old).seen.sent }
 
     // A new journal is made only where the header ends within the limit.
@@ -108,6 +110,7 @@ fn make<T: Station>(
     ensures any_moment { T.tells → IsKept (T.clock station.old) → LeavesOnly (BlankOrCreated (new_header map.now text.now)) (T.clock station.old) (T.clock station.new) }
     ensures unsent { T.tells → (T.clock station.new).seen.sent ≡ (T.clock station.old).seen.sent }
     ensures beside { T.tells → OnOk result (length (T.clock station.new).seen.b ≤ 1) }
+    ensures ends { T.tells → IfOk result (λ journal. length (side_of journal.side (T.clock station.new).seen) ≡ journal.place + 1) }
     ensures within { OnOk result (length map.now + length text.now + 28 ≤ side_limit) }
     ensures refused { IfErr result (MakeRefuses (length map.now + length text.now + 28) side_limit) }
     ensures stays { T.tells → IfErr result (UnlessStation (IsQuiet (T.clock station.old) (T.clock station.new))) }
@@ -134,6 +137,7 @@ fn finish<T: Station>(
         LeavesOnly (Keeps journal.side header entries) (T.clock station.old) (T.clock station.new) }
     ensures unsent { T.tells → (T.clock station.new).seen.sent ≡ (T.clock station.old).seen.sent }
     ensures beside { T.tells → OnOk result (IsClean (side_of (other_of journal.side) (T.clock station.new).seen)) }
+    ensures ends { T.tells → OnOk result (length (side_of journal.side (T.clock station.new).seen) ≡ journal.place + 1) }
     ensures only { IfErr result (λ e. e ≡ OfJournal StationFault) }
     ensures cause { HasCause (T.counts station.old) (T.counts station.new) result }
 {

@@ -2,7 +2,7 @@
 use Rattle.std.specs.Prelude.{◌≡◌, ◌⊎◌, ℕ, Bool, List, IsOk, IsErr, Result}
 use Rattle.station_api.specs.Scene.{Scene}
 use Rattle.station_api.specs.Clock.{Clock}
-use Rattle.station_api.specs.Causes.{Counts, Rose}
+use Rattle.station_api.specs.Causes.{Counts, one_more}
 use Rattle.station_api.specs.Meter.{counts_in, IsSetToFail, CountsCall}
 use Rattle.station_api.specs.Past.{Past, past_clock, past_stopped}
 use Rattle.station_api.specs.declared.meter.Meter.{Meter}
@@ -37,11 +37,12 @@ is_attached station = station.meter.ready
 abbrev pub station_stopped : StationState → ℕ → ℕ → ℕ → Scene
 station_stopped station calls kept filler = past_stopped station.past calls kept filler
 
--- One call: it is counted, it fails where it is set to fail or finds no memory, and a fault changes nothing but the counts.
+-- One call: it is counted, it fails where it is set to fail or finds no memory, and a fault changes nothing but the counts, each by one.
 -- A call on a side is set to fail also before an attach that answered Ok.
 pub record IsCall {T E : Type 0} (on_side : Bool) (old new : StationState) (result : Result T E) : Type 0 where
   pub counted : CountsCall on_side old.meter new.meter result
-  pub only : IsErr result → IsSetToFail on_side old.meter ⊎ Rose old.meter.starved new.meter.starved
+  pub only : IsErr result → IsSetToFail on_side old.meter ⊎ (new.meter.starved ≡ one_more old.meter.starved)
+  pub one_fault : IsErr result → new.meter.faults ≡ one_more old.meter.faults
   pub no_want : IsSetToFail on_side old.meter → new.meter.starved ≡ old.meter.starved
   pub no_fault : IsOk result → (new.meter.faults ≡ old.meter.faults) × (new.meter.starved ≡ old.meter.starved)
   pub unchanged : IsErr result → new.past ≡ old.past

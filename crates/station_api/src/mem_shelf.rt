@@ -1,11 +1,11 @@
 // A shelf in memory.
 ghost use Rattle.std.specs.Prelude.{◌≡◌, ◌⊎◌, ◌↔◌, [], false, ℕ, List, Option, OnOk, OnErr, IfSome, MatchOption, IsErrOf, if◌then◌else◌, length, is_some};
 ghost use Rattle.std.specs.Str.{bytes_eq};
-ghost use Rattle.station_api.specs.Causes.{Counted, IsToBlame, counts_of};
+ghost use Rattle.station_api.specs.Causes.{Counted, IsToBlame, counts_of, one_more};
 ghost use Rattle.station_api.specs.Files.{file_in};
 ghost use Rattle.station_api.specs.Meter.{IsSetToFail, CountsCall};
 ghost use Rattle.station_api.specs.Reading.{Fetches, KeepsLimit, IsFault};
-ghost use Rattle.station_api.specs.ShelfState.{shelf_file, shelf_counts, shelf_fails_at};
+ghost use Rattle.station_api.specs.ShelfState.{shelf_file, shelf_asked, shelf_counts, shelf_fails_at};
 
 use crate::meter::Meter;
 use crate::{Shelf, ShelfFault};
@@ -24,16 +24,18 @@ pub struct File {
 pub struct MemShelf {
     // the newest first
     files: Vec<File>,
+    // the name of the last call, if there was memory to keep it
+    asked: Option<Vec<u8>>,
     meter: Meter,
 }
 
 impl Model for MemShelf {
     ghost use Rattle.std.specs.Prelude.{◌≡◌, false};
-    ghost use Rattle.station_api.specs.ShelfState.{ShelfState};
+    ghost use Rattle.station_api.specs.ShelfState.{ShelfState, name_kept};
 
     ghost Value = { ShelfState };
 
-    ghost view = { λ s. record { files = s.files.items; meter = s.meter } };
+    ghost view = { λ s. record { files = s.files.items; asked = name_kept s.asked; meter = s.meter } };
 
     // It is never ready, since it may always fail for want of a file.
     ghost invariant = { λ s. s.meter.ready ≡ false };
@@ -61,6 +63,7 @@ impl MemShelf {
     {
         MemShelf {
             files: Vec::new(alloc),
+            asked: None,
             meter: Meter::new(failing, false),
         }
     }
@@ -83,11 +86,13 @@ impl MemShelf {
 }
 
 impl Shelf for MemShelf {
-    ghost use Rattle.station_api.specs.ShelfState.{shelf_file, shelf_counts};
+    ghost use Rattle.station_api.specs.ShelfState.{shelf_file, shelf_asked, shelf_counts};
 
     ghost tells = { Unit {0} };
 
     ghost file = { shelf_file };
+
+    ghost asked = { shelf_asked };
 
     ghost counts = { shelf_counts };
 
@@ -95,17 +100,18 @@ impl Shelf for MemShelf {
         ensures limit { KeepsLimit limit result }
         ensures answer { Fetches (shelf_file self.old name.now) result }
         ensures files { (n : List ℕ) → shelf_file self.new n ≡ shelf_file self.old n }
+        ensures asked { IfSome (shelf_asked self.new) (λ n. n ≡ name.now) }
         ensures counted { Counted (shelf_counts self.old) (shelf_counts self.new) }
         ensures cause { IsFault result → IsToBlame (shelf_counts self.old) (shelf_counts self.new) }
 
         // It fails at the calls that are set to fail, and only there, and otherwise only where no file has the name.
         ensures call { CountsCall false self.old.meter self.new.meter result }
         ensures fails { IsErrOf result ShelfFault.Failed ↔ IsSetToFail false self.old.meter }
+        ensures one_fault { IsFault result → (shelf_counts self.new).faults ≡ one_more (shelf_counts self.old).faults }
         ensures missing { shelf_fails_at self.old ≡ [] → ((shelf_counts self.new).faults ≡ (shelf_counts self.old).faults) ⊎ (shelf_file self.old name.now ≡ None) }
     {
-        if self.meter.begin(false).is_err() {
-            return Err(ShelfFault::Failed);
-        }
+        self.asked = name.as_bytes().to_vec(alloc).ok();
+        self.meter.begin(false)?;
         let Some(file) = find(&self.files, name) else {
             self.meter.blame();
             return Err(ShelfFault::Missing);
@@ -114,9 +120,6 @@ impl Shelf for MemShelf {
         if length > limit {
             return Err(ShelfFault::TooLong { length });
         }
-        match file.bytes.as_slice().to_vec(alloc) {
-            Ok(bytes) => Ok(bytes),
-            Err(_) => Err(ShelfFault::Memory),
-        }
+        Ok(file.bytes.as_slice().to_vec(alloc)?)
     }
 }

@@ -1,6 +1,6 @@
 // A source in memory.
 ghost use Rattle.std.specs.Prelude.{◌≡◌, ◌≤◌, ◌↔◌, [], true, false, min, length, IsErr, IfOk, OnOk, OnErr, MatchResult};
-ghost use Rattle.station_api.specs.Causes.{HasCause, counts_of};
+ghost use Rattle.station_api.specs.Causes.{HasCause, counts_of, one_more};
 ghost use Rattle.station_api.specs.Meter.{IsSetToFail, CountsCall};
 ghost use Rattle.station_api.specs.Reading.{TakesFront};
 ghost use Rattle.station_api.specs.SourceState.{source_counts, source_fails_at};
@@ -71,6 +71,7 @@ impl Source for MemSource {
         ensures call { CountsCall false self.old.meter self.new.meter result }
         ensures fails { IsErr result ↔ IsSetToFail false self.old.meter }
         ensures no_fault { OnOk result (source_counts self.new ≡ source_counts self.old) }
+        ensures one_fault { OnErr result ((source_counts self.new).faults ≡ one_more (source_counts self.old).faults) }
         ensures never { source_fails_at self.old ≡ [] → (source_counts self.new).faults ≡ (source_counts self.old).faults }
     {
         self.last = 0;

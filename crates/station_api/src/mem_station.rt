@@ -1,6 +1,7 @@
 // The station in memory. Its sides are kept for every name. It remembers each change, so that a stop after any of its
 // calls can be played.
-ghost use Rattle.std.specs.Prelude.{◌≡◌, ◌<◌, ◌≤◌, ◌-◌, ◌^◌, ℕ, [], true, false, min, length, IfOk, OnOk, OnErr, IfErr, IsErrOf, IsTrue};
+ghost use Rattle.std.specs.Prelude.{◌≡◌, ◌<◌, ◌≤◌, ◌-◌, ◌^◌, ◌↔◌, ℕ, [], true, false, min, length, IfOk, OnOk, OnErr, IfErr, IsErr, IsErrOf, IsTrue};
+ghost use Rattle.station_api.specs.Meter.{IsSetToFail};
 ghost use Rattle.station_api.specs.Scene.{side_of};
 ghost use Rattle.station_api.specs.Clock.{IsKept, IsUnmoved};
 ghost use Rattle.station_api.specs.Disk.{Torn, Shortened, Reaches, IsQuiet, IsStep, IsSending, IsSynced, Writes, Cuts, Sends, Reads};
@@ -152,6 +153,9 @@ impl Station for MemStation {
         ensures counted { Counted (station_counts self.old) (station_counts self.new) }
         ensures cause { IsErrOf result AttachFault.Failed → IsToBlame (station_counts self.old) (station_counts self.new) }
 
+        // It fails exactly where it is set to fail, and takes no memory.
+        ensures fails { IsErr result ↔ IsSetToFail false self.old.meter }
+        ensures only { IfErr result (λ e. e ≡ AttachFault.Failed) }
         ensures call { IsCall false self.old self.new result }
         ensures past { self.new.past ≡ self.old.past }
         ensures attached { OnOk result (is_attached self.new ≡ true) }

@@ -1,5 +1,5 @@
 // Counts the calls of an object in memory, and its faults.
-ghost use Rattle.std.specs.Prelude.{◌≡◌, ◌↔◌, [], false, IsErr, OnOk};
+ghost use Rattle.std.specs.Prelude.{◌≡◌, ◌↔◌, [], false, IsErr, OnOk, OnErr};
 ghost use Rattle.station_api.specs.Causes.{HasCause, IsToBlame, one_more};
 
 use crate::Failed;
@@ -39,6 +39,7 @@ impl Meter {
         ensures ready { self.new.ready ≡ self.old.ready }
         ensures starved { self.new.starved ≡ self.old.starved }
         ensures no_fault { OnOk result (self.new.faults ≡ self.old.faults) }
+        ensures one_fault { OnErr result (self.new.faults ≡ one_more self.old.faults) }
         ensures unfailing { self.old.failing.items ≡ [] → needs_ready ≡ false → self.new.faults ≡ self.old.faults }
     {
         self.calls = self.calls.saturating_add(1);

@@ -6,9 +6,11 @@ ghost use Rattle.station_api.specs.Disk.{Torn, Shortened, Reaches, IsQuiet, IsSt
 ghost use Rattle.station_api.specs.Causes.{Counts, Counted, HasCause, IsToBlame};
 
 use std::alloc::Global;
+use thiserror::Error;
 
 /// The call failed, and the object's count of faults rose.
-#[derive(Clone, Copy, Debug, PartialEq, Eq)]
+#[derive(Clone, Copy, Debug, PartialEq, Eq, Error)]
+#[error("the device failed")]
 pub struct Failed;
 
 /// A side of the journal's disk.
@@ -33,9 +35,11 @@ impl DiskSide {
 }
 
 /// Why a journal was not attached: the station failed, and its count of faults rose, or there was no memory.
-#[derive(Clone, Copy, Debug, PartialEq, Eq)]
+#[derive(Clone, Copy, Debug, PartialEq, Eq, Error)]
 pub enum AttachFault {
+    #[error("the station failed")]
     Failed,
+    #[error("out of memory")]
     Memory,
 }
 

@@ -57,6 +57,8 @@ impl<R: Files> Shelf for RealShelf<R> {
 
     ghost file = { λ _ _. None };
 
+    ghost asked = { λ _. None };
+
     ghost counts = { real_counts };
 
     fn fetch(&mut self, alloc: Global, name: &str, limit: u64) -> Result<Vec<u8>, ShelfFault> {

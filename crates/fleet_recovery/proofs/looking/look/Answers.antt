@@ -1,6 +1,6 @@
 use Rattle.std.proofs.Common.{subst}
 use Rattle.fleet_journal.specs.Answers.{IsFound}
-use Rattle.fleet_recovery.proofs.Passing.{quiet_on, counted_on}
+use Rattle.station_api.proofs.Moments.{quiet_on, counted_on}
 use Rattle.fleet_recovery.proofs.Replays.{still_read}
 use Rattle.fleet_recovery.proofs.Looks.{ok_both, refused_so, looked, bad}
 use Rattle.fleet_recovery.proofs.looking.look.Goals as goal

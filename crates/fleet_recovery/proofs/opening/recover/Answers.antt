@@ -1,10 +1,10 @@
 use Rattle.std.proofs.Common.{refl, inl, inr}
 use Rattle.station_api.proofs.Moments.{kept_quiet}
 use Rattle.fleet_recovery.specs.Papers.{new_header}
-use Rattle.fleet_recovery.proofs.Passing.{quiet_on}
+use Rattle.station_api.proofs.Moments.{quiet_on}
 use Rattle.fleet_recovery.proofs.Replays.{told_on}
 use Rattle.fleet_recovery.specs.Opening.{anew}
-use Rattle.fleet_recovery.proofs.Opens.{opens_again, unless, unless_also, making, new_rests, finishing, rests, not_blank, stands_at, looked_blank, looked_live, made_now, finished_now, made_still, finished_still, synced_quiet, synced_run}
+use Rattle.fleet_recovery.proofs.Opens.{ends_at, opens_again, unless, unless_also, making, new_rests, finishing, rests, not_blank, stands_at, looked_blank, looked_live, made_now, finished_now, made_still, finished_still, synced_quiet, synced_run}
 use Rattle.fleet_recovery.proofs.opening.recover.Goals.{in-None+in_ok-journal-in-None, in-Some+in_ok-journal-in-Some}
 use Rattle.fleet_recovery.proofs.opening.recover.Goals as goal
 
@@ -145,4 +145,13 @@ returns-clause-synced g c told =
       | in-Some+in_ok-journal-in-Some w ↦
           let has = looked_live _ _ _ _ _ _ _ _ _ (c.sync_both.ensures.quiet told).seen w.in-Some.is (c.in_ok-fleet.ensures.found told) in
           inl (rw w.station-is (synced_run _ _ _ _ _ _ (c.sync_both.ensures.quiet told) kept (c.look.ensures.quiet told) _ (w.finish.ensures.any_moment told has.header has.entries (stands_at _ _ _ _ _ quiet.seen has.stands) still) (finished_still _ _ _ _ quiet _ _ _ _ has)))
+    ]
+
+pub returns-clause-ends : goal.returns-clause-ends
+returns-clause-ends g c told =
+    elim c.match-live.branch [
+      | in-None+in_ok-journal-in-None w ↦ rw (w.station-is, w.journal-is) (w.in_ok-journal-in-None.ensures.ends told)
+      | in-Some+in_ok-journal-in-Some w ↦
+          let done = w.in_ok-journal-in-Some.ensures in
+          rw (w.station-is, w.journal-is) (ends_at _ _ _ done.same (done.ends told))
     ]

@@ -1,7 +1,7 @@
 use Rattle.std.proofs.Common.{◌≡◌, ℕ, ◌+◌, ◌-◌, ◌^◌, ◌<◌, ◌≤◌, Bool, true, false, IsTrue, cond, refl, ap, ◌∙◌, subst, arith}
 use Rattle.fleet_base.specs.State.{FleetState}
 use Rattle.fleet_recovery.specs.Replaying.{HasLedUntil}
-use Rattle.fleet_recovery.proofs.Passing.{quiet_on, counted_on}
+use Rattle.station_api.proofs.Moments.{quiet_on, counted_on}
 use Rattle.fleet_recovery.proofs.Replays.{told_on, entry_refuses, led_on, stuck_there}
 use Rattle.fleet_recovery.proofs.replay.replay.Goals as goal
 

@@ -1,7 +1,7 @@
-use Rattle.std.proofs.Common.{◌≡◌, ℕ, ◌^◌, ◌<◌, List, length, refl, sym, subst, ap, arith}
+use Rattle.std.proofs.Common.{◌≡◌, ℕ, ◌^◌, ◌<◌, List, ◌∷◌, length, refl, sym, ◌∙◌, subst, ap, arith}
 use Rattle.journal_frame.specs.declared.header.HeaderParts.{HeaderParts}
 use Rattle.fleet_journal.specs.Journal.{IsHeaderText}
-use Rattle.fleet_journal.proofs.Create.{until_cleared, until_gate, until_header, until_end, at_end, stands_created}
+use Rattle.fleet_journal.proofs.Create.{until_cleared, until_gate, until_header, until_end, at_end, stands_created, ends_shut, short_stays}
 use Rattle.fleet_journal.proofs.journal.Journal.create.Goals as goal
 
 -- the bytes of the text are those of the header
@@ -49,3 +49,16 @@ returns-clause-creates g c told h is =
 pub returns-clause-kept : goal.returns-clause-kept
 returns-clause-kept g c told kept =
     c.in_ok-clear_long.ensures.kept told (c.in_ok-put_header.ensures.kept told (c.in_ok-put_gate.ensures.kept told (c.in_ok-clear.ensures.kept told kept)))
+
+pub returns-clause-bytes : goal.returns-clause-bytes
+returns-clause-bytes g c told = let last = c.in_ok-clear_long.ensures.clears told in let put = c.in_ok-put_header.ensures.puts told in last.off ∙ put.on ∙ ap (λ (l : List ℕ). 1 ∷ l) c.as_slice-header.ensures
+
+pub returns-clause-ends : goal.returns-clause-ends
+returns-clause-ends g c told =
+    let last = c.in_ok-clear_long.ensures.clears told in
+    let put = c.in_ok-put_header.ensures.puts told in
+    let h = c.requires.header.0 in
+    ends_shut h _ (of_text _ _ h c.as_slice-header.ensures c.requires.header.1) (short _ _ c.as_slice-header.ensures c.requires.few) _ (g.T.Station.clock c.clear_long.new.station).seen (last.off ∙ put.on) refl
+
+pub returns-clause-short_stays : goal.returns-clause-short_stays
+returns-clause-short_stays g c told = short_stays _ _ _ _ _ _ (c.in_ok-clear.ensures.clears told) (c.in_ok-put_gate.ensures.puts told) (c.in_ok-put_header.ensures.puts told) (c.in_ok-clear_long.ensures.clears told)

@@ -22,7 +22,7 @@ returns-in-Err-clause-part c = rw (← c.self.view_is) (0, omega arith, c.in-Err
 pub returns-in-Err-clause-call : goal.returns-in-Err-clause-call
 returns-in-Err-clause-call c =
     let begun = c.in_ok-begin.ensures in
-    rw (← c.self.view_is) (starved_call _ _ _ _ _ begun.calls begun.failing begun.starved (λ set. begun.fails.1 set) c.starve.ensures.counts c.in-Err.ensures.err refl)
+    rw (← c.self.view_is) (starved_call _ _ _ _ _ begun.calls begun.failing begun.starved begun.no_fault (λ set. begun.fails.1 set) c.starve.ensures.counts c.in-Err.ensures.err refl)
 
 pub returns-clause-sending : goal.returns-clause-sending
 returns-clause-sending c = rw (← c.self.view_is) c.in_default.ensures.sending
