@@ -6,7 +6,6 @@ use Rattle.fleet_base.specs.Groups.{AreOpenGroups}
 use Rattle.fleet_base.specs.Order.{Graph}
 use Rattle.fleet_base.specs.State.{FleetState}
 use Rattle.plan_graph.specs.Views.{OrientedGraph, order_in}
-use Rattle.cert_tree.specs.Orders.{KeepsClosed}
 use Rattle.cert_tree.proofs.Branches.{spent_within_groups}
 use Rattle.order_choice.specs.declared.outcome.Outcome.{Outcome}
 use Rattle.order_choice.specs.declared.outcome.Outcome.TheVariants.{Spent}
@@ -22,9 +21,10 @@ use Rattle.order_choice.proofs.Exits.{optimal_exit, spent_exit}
 use Rattle.order_choice.proofs.Printable.{written_printable}
 use Rattle.order_choice.proofs.Written.{written_branches}
 use Rattle.fleet_base.proofs.Members.{head_in, tail_in}
-use Rattle.search_nodes.specs.Making.{Making, best_order}
+use Rattle.fleet_base.specs.Open.{KeepsClosed}
+use Rattle.search_nodes.specs.Making.{Making, best_order, KeepsBest}
 use Rattle.search_line.specs.Lines.{Numbered, nodes_on, IsWaiting}
-use Rattle.bound_search.specs.UnderWay.{IsUnderWay, IsOver, KeepsBest, outcome_of}
+use Rattle.bound_search.specs.UnderWay.{IsUnderWay, IsOver, outcome_of}
 use Rattle.bound_search.specs.Walking.{IsCertOf}
 use Rattle.bound_search.proofs.Places.{nodes-append}
 use Rattle.bound_search.proofs.Refining.{closed, parted}

@@ -21,10 +21,10 @@ use Rattle.order_choice.specs.Searching.{forced_on, EachOnLine, IsForcedOut, IsR
 use Rattle.order_choice.proofs.Candidates.{below_has_conflict}
 use Rattle.order_choice.proofs.Expanding.{searched_none, searched_more}
 use Rattle.order_choice.proofs.Lines.{dear_below, met}
-use Rattle.search_nodes.specs.Making.{Making, best_order, given_on, IsBack}
+use Rattle.search_nodes.specs.Making.{Making, best_order, given_on, IsBack, KeepsBest}
 use Rattle.search_line.specs.Lines.{Numbered, nodes_on, first_number, IsAt, IsWaiting, HasCost, HasCostAt}
 use Rattle.search_line.specs.Going.{IsInForce, StandsAt}
-use Rattle.bound_search.specs.UnderWay.{IsUnderWay, IsNext, KeepsBest}
+use Rattle.bound_search.specs.UnderWay.{IsUnderWay, IsNext}
 use Rattle.bound_search.proofs.Places.{nodes-append}
 
 -- what is said of two things, and of four, is said of those that are the same

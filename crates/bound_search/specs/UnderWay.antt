@@ -40,11 +40,3 @@ outcome_of cert (Some least) = Spent cert least
 pub record OfSameState (old new : Making) : Type 0 where
   pub graph : new.graph ≡ old.graph
   pub state : new.state ≡ old.state
-
--- the nodes were made of the same state, the best order stays, and decisions were asked for no less often
-pub record KeepsBest (old new : Making) : Type 0 where
-  pub graph : new.graph ≡ old.graph
-  pub state : new.state ≡ old.state
-  pub best : new.best ≡ old.best
-  pub cost : new.cost ≡ old.cost
-  pub asked : old.asked ≤ new.asked

@@ -3,10 +3,10 @@ ghost use Rattle.std.specs.Prelude.{ℕ, ◌≡◌, ◌+◌, ◌*◌, ◌<◌, �
 ghost use Rattle.fleet_base.specs.Groups.{AreOpenGroups};
 ghost use Rattle.fleet_base.specs.Order.{IsSoundOrder};
 ghost use Rattle.fleet_base.specs.Rules.{IsFleetState};
+ghost use Rattle.fleet_base.specs.Open.{KeepsClosed};
 ghost use Rattle.plan_graph.specs.Views.{order_in};
 ghost use Rattle.cert_tree.specs.declared.node.Node.{Node};
 ghost use Rattle.cert_tree.specs.CertText.{IsWritten};
-ghost use Rattle.cert_tree.specs.Orders.{KeepsClosed};
 ghost use Rattle.cert_tree.specs.Preorder.{branches_in};
 ghost use Rattle.order_choice.specs.declared.outcome.Outcome.TheVariants.{Spent};
 ghost use Rattle.order_choice.specs.Choices.{IsChosen, cert_of};

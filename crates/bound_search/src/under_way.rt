@@ -8,9 +8,9 @@ ghost use Rattle.order_choice.specs.declared.made.MadeNode.{MadeNode};
 ghost use Rattle.order_choice.specs.Candidates.{IsInConflict};
 ghost use Rattle.order_choice.specs.Searching.{AreAbove, forced_on};
 ghost use Rattle.search_nodes.specs.Rooms.{IsRoomFor};
-ghost use Rattle.search_nodes.specs.Making.{given_on};
+ghost use Rattle.search_nodes.specs.Making.{given_on, KeepsBest};
 ghost use Rattle.search_line.specs.Lines.{nodes_on, IsAt, HasCostAt};
-ghost use Rattle.bound_search.specs.UnderWay.{IsUnderWay, IsNext, IsOver, KeepsBest, OfSameState};
+ghost use Rattle.bound_search.specs.UnderWay.{IsUnderWay, IsNext, IsOver, OfSameState};
 
 use fleet_base::{Fleet, Memory, PairId, Side};
 use plan_graph::PlanGraph;

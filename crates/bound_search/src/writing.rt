@@ -6,8 +6,9 @@ ghost use Rattle.order_choice.specs.declared.made.MadeNode.{MadeNode};
 ghost use Rattle.order_choice.specs.Searching.{forced_on};
 ghost use Rattle.order_choice.specs.Writing.{forced_nodes, with_children};
 ghost use Rattle.search_line.specs.Lines.{nodes_on, IsAt, IsOn, HasCostAt};
-ghost use Rattle.bound_search.specs.UnderWay.{IsUnderWay, KeepsBest};
+ghost use Rattle.bound_search.specs.UnderWay.{IsUnderWay};
 ghost use Rattle.bound_search.specs.Walking.{IsBoundAt, IsCertOf, IsTaken, IsWalked, IsWrittenAs};
+ghost use Rattle.search_nodes.specs.Making.{KeepsBest};
 
 use crate::under_way::Search;
 use cert_tree::{Cert, Node};

@@ -21,26 +21,25 @@ use Rattle.order_choice.specs.declared.made.Forcing.{Forcing}
 use Rattle.order_choice.specs.declared.made.Stand.{Stand}
 use Rattle.order_choice.specs.declared.made.Stand.TheVariants.{Round, Waiting, Expanded}
 use Rattle.order_choice.specs.Searching.{AreForced, IsRelaxed, StandsSo, IsMadeRight, forced_on}
-use Rattle.order_choice.proofs.Candidates.{one_extends}
-use Rattle.search_nodes.specs.Making.{Making, given_on}
+use Rattle.order_choice.proofs.Expanding.{forced_extends}
+use Rattle.search_nodes.specs.Making.{Making, given_on, KeepsBest}
+use Rattle.search_nodes.proofs.Forcings.{given_forced}
 use Rattle.search_nodes.proofs.Ways.{same_order, free_given}
 use Rattle.search_line.specs.declared.kept.Kept.{Kept}
 use Rattle.search_line.specs.declared.kept.Origin.{Origin}
 use Rattle.search_line.specs.Lines.{HasCost}
 use Rattle.search_line.specs.Nodes.{IsWayTo}
-use Rattle.search_line.specs.Going.{IsElsewhere, EachHasWay, IsFrom, AreThoseOf, AreMadeRight, HasNoCycle, CanForce, given_with}
+use Rattle.search_line.specs.Going.{EachHasWay, IsFrom, AreThoseOf, AreMadeRight, HasNoCycle, CanForce}
 use Rattle.search_line.proofs.Linking.{same_some}
 use Rattle.search_line.proofs.Climbing.{HasChildWay, child_way, one_way, one_from, root_way}
-
-abbrev pub given : PairId → Side → Given
-given q side = record { pair = q; side = side }
+use Rattle.search_nodes.specs.Forcing.{given_to, given_after}
 
 -- one step after another
-pub elsewhere_itself : (m : Making) → IsElsewhere m m
-elsewhere_itself m = record { graph = refl; state = refl; best = refl; cost = refl; asked = omega arith }
+pub best_itself : (m : Making) → KeepsBest m m
+best_itself m = record { graph = refl; state = refl; best = refl; cost = refl; asked = omega arith }
 
-pub elsewhere_then : (a b c : Making) → IsElsewhere a b → IsElsewhere b c → IsElsewhere a c
-elsewhere_then a b c one two = record {
+pub best_then : (a b c : Making) → KeepsBest a b → KeepsBest b c → KeepsBest a c
+best_then a b c one two = record {
   graph = two.graph ∙ one.graph;
   state = two.state ∙ one.state;
   best = two.best ∙ one.best;
@@ -48,15 +47,10 @@ elsewhere_then a b c one two = record {
   asked = omega (arith, one.asked, two.asked);
 }
 
-pub elsewhere_with : (a b : Making) (ds : List Given) → b ≡ record a { decisions = ds } → IsElsewhere a b
-elsewhere_with a b ds e = subst (λ (z : Making). IsElsewhere a z) (sym e) (record { graph = refl; state = refl; best = refl; cost = refl; asked = omega arith })
+pub best_with : (a b : Making) (ds : List Given) → b ≡ record a { decisions = ds } → KeepsBest a b
+best_with a b ds e = subst (λ (z : Making). KeepsBest a z) (sym e) (record { graph = refl; state = refl; best = refl; cost = refl; asked = omega arith })
 
--- forced decisions are given one after another
-pub given_same : (fs : List Forcing) (way : List Decision) → given_with fs (given_on way) ≡ given_on (forced_on fs way)
-given_same [] way = refl
-given_same (f ∷ fs) way = given_same fs (force_to f.pair f.side ∷ way)
-
--- and are taken back again
+-- forced decisions are taken back again
 pub length_forced : (fs : List Forcing) (way : List Decision) → length (given_on (forced_on fs way)) ≡ length fs + length way
 length_forced [] way = omega (arith, length_given way)
   where
@@ -71,11 +65,6 @@ drop_forced (f ∷ fs) way =
     let all = given_on (forced_on fs (force_to f.pair f.side ∷ way)) in
     let more : length (f ∷ fs) ≡ length fs + 1 = omega arith in
     ap (λ (n : ℕ). drop n all) more ∙ sym (drop-drop 1 (length fs) all) ∙ ap (λ (z : List Given). drop 1 z) (drop_forced fs (force_to f.pair f.side ∷ way))
-
--- a further decision of a free pair leaves the sides
-pub forced_extends : (g : Graph) (x : FleetState) (fs : List Forcing) (way : List Decision) → AreForced g x fs way → Extends (order_on g x way) (order_on g x (forced_on fs way))
-forced_extends g x [] way h q side e = e
-forced_extends g x (f ∷ fs) way h q side e = forced_extends g x fs (force_to f.pair f.side ∷ way) h.3 q side (one_extends g x way (force_to f.pair f.side) h.0 q side e)
 
 -- a part decision with a relaxed cost has no cycle
 pub relaxed_acyclic : (g : Graph) (x : FleetState) → IsFleetState g x → (way : List Decision) (cost : ℕ) → IsRelaxed g x way cost → IsCyclic g (order_on g x way) → ⊥
@@ -97,7 +86,7 @@ expanded_free g x way stand cost q e h =
 -- what giving one decision asks for
 pub record CanDescend (g : Graph) (x : FleetState) (ds : List Given) (q : PairId) (side : Side) : Type 0 where
   pub free : IsFreeGiven g x ds q.0
-  pub acyclic : IsCyclic g (given_order g x (given q side ∷ ds)) → ⊥
+  pub acyclic : IsCyclic g (given_order g x (given_to q side ∷ ds)) → ⊥
 
 pub can_descend : (g : Graph) (x : FleetState) (way : List Decision) (ds : List Given) (d : Decision) (q : PairId) (more : List Forcing) → ds ≡ given_on way → q.0 ≡ d.pair → IsFree g x way d.pair → AreForced g x more (d ∷ way) → (IsCyclic g (order_on g x (forced_on more (d ∷ way))) → ⊥) → CanDescend g x ds q d.side
 can_descend g x way ds d q more is pair free forced acyclic = subst (λ (z : List Given). CanDescend g x z q d.side) (sym is) (record {
@@ -109,21 +98,21 @@ can_descend g x way ds d q more is pair free forced acyclic = subst (λ (z : Lis
 pub force_first : (g : Graph) (x : FleetState) (ds : List Given) (f : Forcing) (fs : List Forcing) → CanForce g x ds (f ∷ fs) → CanDescend g x ds f.pair f.side
 force_first g x ds f fs h = can_descend g x h.way ds (force_to f.pair f.side) f.pair fs h.given refl h.free.0 h.free.3 h.acyclic
 
-pub force_rest : (g : Graph) (x : FleetState) (ds : List Given) (f : Forcing) (fs : List Forcing) → CanForce g x ds (f ∷ fs) → CanForce g x (given f.pair f.side ∷ ds) fs
-force_rest g x ds f fs h = record { way = force_to f.pair f.side ∷ h.way; given = ap (λ (z : List Given). given f.pair f.side ∷ z) h.given; free = h.free.3; acyclic = h.acyclic }
+pub force_rest : (g : Graph) (x : FleetState) (ds : List Given) (f : Forcing) (fs : List Forcing) → CanForce g x ds (f ∷ fs) → CanForce g x (given_to f.pair f.side ∷ ds) fs
+force_rest g x ds f fs h = record { way = force_to f.pair f.side ∷ h.way; given = ap (λ (z : List Given). given_to f.pair f.side ∷ z) h.given; free = h.free.3; acyclic = h.acyclic }
 
 -- going down to a node
 pub record CanEnter (g : Graph) (x : FleetState) (nodes : List Kept) (number : ℕ) (origin : Origin) (ds : List Given) (kept : Kept) : Type 0 where
   pub descend : CanDescend g x ds origin.pair origin.side
-  pub force : CanForce g x (given origin.pair origin.side ∷ ds) kept.node.forced
-  pub there : AreThoseOf nodes number (given_with kept.node.forced (given origin.pair origin.side ∷ ds))
+  pub force : CanForce g x (given_to origin.pair origin.side ∷ ds) kept.node.forced
+  pub there : AreThoseOf nodes number (given_after kept.node.forced (given_to origin.pair origin.side ∷ ds))
 
 pub can_enter : (g : Graph) (x : FleetState) (nodes : List Kept) (number : ℕ) (origin : Origin) (ds : List Given) (kept : Kept) → IsFleetState g x → EachHasWay nodes → AreMadeRight g x nodes → 0 < number → HasNoCycle nodes number → slice_get nodes number ≡ Some kept → IsFrom nodes number origin → AreThoseOf nodes origin.parent ds → CanEnter g x nodes number origin ds kept
 can_enter g x nodes number origin ds kept state ways right more stands there from those =
     subst (λ (o : Origin). CanEnter g x nodes number o ds kept) same (record {
       descend = can_descend g x before ds branch k.child.origin.pair kept.node.forced is refl free made.0 acyclic;
-      force = record { way = branch ∷ before; given = ap (λ (z : List Given). given k.child.origin.pair k.child.origin.side ∷ z) is; free = made.0; acyclic = acyclic };
-      there = record { kept = kept; way = branch ∷ before; there = there; leads = leads; same = ap (λ (z : List Given). given_with kept.node.forced (given k.child.origin.pair k.child.origin.side ∷ z)) is ∙ given_same kept.node.forced (branch ∷ before) };
+      force = record { way = branch ∷ before; given = ap (λ (z : List Given). given_to k.child.origin.pair k.child.origin.side ∷ z) is; free = made.0; acyclic = acyclic };
+      there = record { kept = kept; way = branch ∷ before; there = there; leads = leads; same = ap (λ (z : List Given). given_after kept.node.forced (given_to k.child.origin.pair k.child.origin.side ∷ z)) is ∙ given_forced kept.node.forced (branch ∷ before) };
     })
   where
     k : HasChildWay nodes number
@@ -166,10 +155,10 @@ can_enter g x nodes number origin ds kept state ways right more stands there fro
     acyclic = standing_acyclic g x state (forced_on kept.node.forced (branch ∷ before)) kept.node.stand standing made.1
 
 -- going down to the root
-pub can_begin : (g : Graph) (x : FleetState) (nodes : List Kept) (ds : List Given) (kept : Kept) → IsFleetState g x → EachHasWay nodes → AreMadeRight g x nodes → HasNoCycle nodes 0 → slice_get nodes 0 ≡ Some kept → ds ≡ [] → CanForce g x ds kept.node.forced × AreThoseOf nodes 0 (given_with kept.node.forced ds)
+pub can_begin : (g : Graph) (x : FleetState) (nodes : List Kept) (ds : List Given) (kept : Kept) → IsFleetState g x → EachHasWay nodes → AreMadeRight g x nodes → HasNoCycle nodes 0 → slice_get nodes 0 ≡ Some kept → ds ≡ [] → CanForce g x ds kept.node.forced × AreThoseOf nodes 0 (given_after kept.node.forced ds)
 can_begin g x nodes ds kept state ways right stands there none = (
   record { way = []; given = none; free = made.0; acyclic = acyclic },
-  record { kept = kept; way = []; there = there; leads = leads; same = ap (λ (z : List Given). given_with kept.node.forced z) none ∙ given_same kept.node.forced [] },
+  record { kept = kept; way = []; there = there; leads = leads; same = ap (λ (z : List Given). given_after kept.node.forced z) none ∙ given_forced kept.node.forced [] },
 )
   where
     leads : IsWayTo nodes 0 []

@@ -10,12 +10,12 @@ use Rattle.cert_tree.specs.Decisions.{Decision}
 use Rattle.order_choice.specs.declared.made.MadeNode.{MadeNode}
 use Rattle.order_choice.specs.Searching.{EachOnLine, IsMadeRight, forced_on}
 use Rattle.order_choice.proofs.Lines.{met}
-use Rattle.search_nodes.specs.Making.{Making, given_on}
+use Rattle.search_nodes.specs.Making.{Making, given_on, KeepsBest}
 use Rattle.search_line.specs.declared.kept.Kept.{Kept}
 use Rattle.search_line.specs.declared.turns.Turn.{Turn}
 use Rattle.search_line.specs.Lines.{Numbered, nodes_on, IsOn, IsAt, HasCost, HasCostAt}
 use Rattle.search_line.specs.Nodes.{AreLinked, HaveWays, IsWayTo}
-use Rattle.search_line.specs.Going.{IsElsewhere, StandsAt, EachHasWay, AreThoseOf, BeginsAt, AreMadeRight, HasNoCycle}
+use Rattle.search_line.specs.Going.{StandsAt, EachHasWay, AreThoseOf, BeginsAt, AreMadeRight, HasNoCycle}
 use Rattle.search_line.proofs.Linking.{numbered, same_some, linked_at, kept_on}
 use Rattle.search_line.proofs.Growing.{HasWayAt, way_at}
 use Rattle.search_line.proofs.Holding.{IsLineOf}
@@ -82,5 +82,5 @@ begins_within nodes (Some number) ds first b none some inside =
     let lt : number < length nodes = slice_get_within nodes number b.kept b.there in
     omega arith
 
-pub right_elsewhere : (a b : Making) (nodes : List Kept) → IsElsewhere a b → AreMadeRight a.graph a.state nodes → AreMadeRight b.graph b.state nodes
-right_elsewhere a b nodes e right = subst (λ (x : FleetState). AreMadeRight b.graph x nodes) (sym e.state) (subst (λ (g : Graph). AreMadeRight g a.state nodes) (sym e.graph) right)
+pub right_kept : (a b : Making) (nodes : List Kept) → KeepsBest a b → AreMadeRight a.graph a.state nodes → AreMadeRight b.graph b.state nodes
+right_kept a b nodes e right = subst (λ (x : FleetState). AreMadeRight b.graph x nodes) (sym e.state) (subst (λ (g : Graph). AreMadeRight g a.state nodes) (sym e.graph) right)

@@ -7,7 +7,7 @@ use Rattle.cert_tree.specs.Decisions.{Decision, order_on}
 use Rattle.order_choice.specs.declared.made.Forcing.{Forcing}
 use Rattle.order_choice.specs.declared.made.MadeNode.{MadeNode}
 use Rattle.order_choice.specs.Searching.{AreForced, IsMadeRight, forced_on}
-use Rattle.search_nodes.specs.Making.{Making, given_on}
+use Rattle.search_nodes.specs.Making.{given_on}
 use Rattle.search_line.specs.declared.kept.Kept.{Kept}
 use Rattle.search_line.specs.declared.kept.Origin.{Origin}
 use Rattle.search_line.specs.Lines.{Numbered, IsAt, HasCost}
@@ -24,14 +24,6 @@ pub record IsInForce (line : List Numbered) (number : ℕ) (decisions : List Giv
 abbrev pub StandsAt : List Numbered → Option ℕ → List Given → Type 0
 StandsAt line None decisions = decisions ≡ []
 StandsAt line (Some number) decisions = IsInForce line number decisions
-
--- only the decisions are others, and decisions were asked for no less often
-pub record IsElsewhere (old new : Making) : Type 0 where
-  pub graph : new.graph ≡ old.graph
-  pub state : new.state ≡ old.state
-  pub best : new.best ≡ old.best
-  pub cost : new.cost ≡ old.cost
-  pub asked : old.asked ≤ new.asked
 
 -- a way leads to each node
 abbrev pub EachHasWay : List Kept → Type 0
@@ -74,11 +66,6 @@ pub record HasNoCycle (nodes : List Kept) (number : ℕ) : Type 0 where
   pub kept : Kept
   pub there : slice_get nodes number ≡ Some kept
   pub stand : HasCost kept.node.stand
-
--- the decisions with forced ones
-abbrev pub given_with : List Forcing → List Given → List Given
-given_with [] decisions = decisions
-given_with (f ∷ fs) decisions = given_with fs (record { pair = f.pair; side = f.side } ∷ decisions)
 
 -- pairs can be forced one after another: each is free then, and all decisions together have no cycle
 pub record CanForce (g : Graph) (x : FleetState) (decisions : List Given) (forced : List Forcing) : Type 0 where

@@ -3,10 +3,11 @@ ghost use Rattle.fleet_base.specs.Rules.{IsFleetState};
 ghost use Rattle.cert_tree.specs.Decisions.{Decision};
 ghost use Rattle.order_choice.specs.declared.made.MadeNode.{MadeNode};
 ghost use Rattle.order_choice.specs.Searching.{EachOnLine, IsMadeRight, forced_on};
-ghost use Rattle.search_nodes.specs.Making.{given_on};
+ghost use Rattle.search_nodes.specs.Making.{given_on, KeepsBest};
 ghost use Rattle.search_line.specs.declared.kept.Origin.{Origin};
 ghost use Rattle.search_line.specs.Lines.{nodes_on, IsAt, HasCostAt};
-ghost use Rattle.search_line.specs.Going.{AreMadeRight, AreThoseOf, BeginsAt, CanForce, CanGoDown, EachHasWay, HasNoCycle, IsElsewhere, IsFrom, LeadUp, LiesBelow, StandsAt, given_with};
+ghost use Rattle.search_line.specs.Going.{AreMadeRight, AreThoseOf, BeginsAt, CanForce, CanGoDown, EachHasWay, HasNoCycle, IsFrom, LeadUp, LiesBelow, StandsAt};
+ghost use Rattle.search_nodes.specs.Forcing.{given_after};
 
 use crate::Line;
 use crate::kept::{Kept, Origin};
@@ -112,7 +113,7 @@ fn rise(nodes: &[Kept], maker: &mut Maker<'_, '_>, from: Option<u32>, above: u32
     requires root { from ≡ None → above ≡ 0 }
     requires stand { HasNoCycle nodes.now above }
     ensures there { AreThoseOf nodes.now above maker.new.decisions }
-    ensures elsewhere { IsElsewhere maker.old maker.new }
+    ensures best { KeepsBest maker.old maker.new }
 {
     match from {
         Some(number) => climb(nodes, maker, number, above),
@@ -126,7 +127,7 @@ fn climb(nodes: &[Kept], maker: &mut Maker<'_, '_>, number: u32, above: u32)
     requires force { AreThoseOf nodes.now number maker.old.decisions }
     requires below { LiesBelow nodes.now number above }
     ensures there { AreThoseOf nodes.now above maker.new.decisions }
-    ensures elsewhere { IsElsewhere maker.old maker.new }
+    ensures best { KeepsBest maker.old maker.new }
 {
     let mut at = number;
     while at != above {
@@ -141,7 +142,7 @@ fn leave(nodes: &[Kept], maker: &mut Maker<'_, '_>, number: u32)
     requires child { 0 < number }
     requires force { AreThoseOf nodes.now number maker.old.decisions }
     ensures parent { (origin : Origin) → IsFrom nodes.now number origin → AreThoseOf nodes.now origin.parent maker.new.decisions }
-    ensures elsewhere { IsElsewhere maker.old maker.new }
+    ensures best { KeepsBest maker.old maker.new }
 {
     let forced = nodes[number as usize].node.forced.as_slice();
     take_back(maker, forced.len());
@@ -165,7 +166,7 @@ fn go_down(nodes: &[Kept], maker: &mut Maker<'_, '_>, mut path: Vec<u32>)
     requires right { AreMadeRight maker.old.graph maker.old.state nodes.now }
     requires down { CanGoDown nodes.now path.items maker.old.decisions }
     ensures there { (number above : ℕ) → LeadUp nodes.now number path.items above → AreThoseOf nodes.now above maker.old.decisions → AreThoseOf nodes.now number maker.new.decisions }
-    ensures elsewhere { IsElsewhere maker.old maker.new }
+    ensures best { KeepsBest maker.old maker.new }
 {
     while let Some(number) = path.pop() {
         enter(nodes, maker, number);
@@ -181,7 +182,7 @@ fn enter(nodes: &[Kept], maker: &mut Maker<'_, '_>, number: u32)
     requires stand { HasNoCycle nodes.now number }
     requires parent { (origin : Origin) → IsFrom nodes.now number origin → AreThoseOf nodes.now origin.parent maker.old.decisions }
     ensures there { AreThoseOf nodes.now number maker.new.decisions }
-    ensures elsewhere { IsElsewhere maker.old maker.new }
+    ensures best { KeepsBest maker.old maker.new }
 {
     let origin = origin_of(nodes, number);
     maker.descend(origin.pair, origin.side);
@@ -191,8 +192,8 @@ fn enter(nodes: &[Kept], maker: &mut Maker<'_, '_>, number: u32)
 /// Gives pairs their forced sides.
 fn force(maker: &mut Maker<'_, '_>, forced: &[Forcing])
     requires { CanForce maker.old.graph maker.old.state maker.old.decisions forced.now }
-    ensures decisions { maker.new.decisions ≡ given_with forced.now maker.old.decisions }
-    ensures elsewhere { IsElsewhere maker.old maker.new }
+    ensures decisions { maker.new.decisions ≡ given_after forced.now maker.old.decisions }
+    ensures best { KeepsBest maker.old maker.new }
 {
     for forcing in forced {
         maker.descend(forcing.pair, forcing.side);

@@ -79,18 +79,6 @@ module _ (g : Graph) (x : FleetState) (order : ℕ → Option Side) (n : ℕ) (p
   pub path_more : ArePathsTo g x order (n + 1) (paths ++ add_path n pairs [])
   path_more = record { pairs_for = more_for; are = are_more; each = each_more }
 
--- an empty path adds none
-pub add_none : (paths : List CertPath) (n : ℕ) (pairs : List PairId) → pairs ≡ [] → paths ≡ paths ++ add_path n pairs []
-add_none paths n pairs e = sym (ap (λ (qs : List PairId). paths ++ add_path n qs []) e ∙ append_nil paths)
-  where
-    append_nil : (ps : List CertPath) → ps ++ [] ≡ ps
-    append_nil ps = append-nil ps
-
--- another one adds itself
-pub add_one : (paths : List CertPath) (n : ℕ) (pairs : List PairId) → pairs ≢ [] → paths ++ record { robot = n; pairs = pairs } ∷ [] ≡ paths ++ add_path n pairs []
-add_one paths n [] some = absurd (some refl)
-add_one paths n (q ∷ qs) some = refl
-
 -- the paths of all robots are a Bound for whatever the relaxed cost reaches
 pub are_bound : (g : Graph) (x : FleetState) (ds : List Given) (way : List Decision) (paths : List CertPath) (relaxed cost : ℕ) → 1 ≤ length g.lasts → ArePathsTo g x (given_order g x ds) (length g.lasts) paths → ds ≡ given_on way → IsCost g x (order_on g x way) relaxed → cost ≤ relaxed
     → IsBound g x way cost paths

@@ -8,7 +8,7 @@ use Rattle.fleet_base.specs.declared.order.Pair.{Pair}
 use Rattle.fleet_base.specs.declared.order.Side.{Side}
 use Rattle.fleet_base.specs.Order.{Graph, IsVisit, IsSoundOrder, IsCyclic, next_visit}
 use Rattle.fleet_base.specs.State.{FleetState, order_at}
-use Rattle.fleet_base.specs.Open.{is_open}
+use Rattle.fleet_base.specs.Open.{is_open, KeepsClosed}
 use Rattle.fleet_base.specs.Rules.{IsFleetState}
 use Rattle.fleet_base.specs.Schedule.{ObeysEdge, IsLeastSchedule, IsCost, end_sum_of}
 use Rattle.fleet_base.proofs.Costs.{one_cost, cost_of_least}
@@ -19,7 +19,7 @@ use Rattle.longest_path.specs.Extending.{Extends}
 use Rattle.longest_path.proofs.Extending.{obeys_fewer}
 use Rattle.longest_path.proofs.LiveLaws.{open_within}
 use Rattle.cert_tree.specs.Decisions.{Decision, side_on, order_on, IsFree}
-use Rattle.cert_tree.specs.Orders.{KeepsClosed, ObeysPairs}
+use Rattle.cert_tree.specs.Orders.{ObeysPairs}
 use Rattle.cert_tree.proofs.EdgeLaws.{visit_before}
 use Rattle.cert_tree.proofs.Lawful.{listed}
 use Rattle.cert_tree.proofs.SoundOrders.{acyclic_is_sound}
@@ -33,7 +33,7 @@ use Rattle.search_nodes.proofs.Sides.{has_side, order_of_closed}
 use Rattle.search_nodes.proofs.Conflicts.{order_is, least_given}
 
 -- the state's side of a pair
-state_side : (g : Graph) (x : FleetState) → IsFleetState g x → (q : ℕ) → q < length g.pairs → (side : Side) × (order_at g x q ≡ Some side)
+pub state_side : (g : Graph) (x : FleetState) → IsFleetState g x → (q : ℕ) → q < length g.pairs → (side : Side) × (order_at g x q ≡ Some side)
 state_side g x state q lt = go (order_at g x q) refl (state.order.total q lt)
   where
     go : (o : Option Side) → order_at g x q ≡ o → IsSome (order_at g x q) → (side : Side) × (order_at g x q ≡ Some side)
@@ -88,10 +88,6 @@ module _ (g : Graph) (x : FleetState) (state : IsFleetState g x) (ds : List Give
   pub view_weighs : (way : List Decision) → ds ≡ given_on way → (cost : ℕ) → (IsSoundOrder g order → (c : ℕ) → IsCost g x order c → cost ≤ c) → IsNoCheaper g x cost way
   view_weighs way e cost dear s other c least is sound k = weighs g x way s order cost state least (is_candidate way e s least) dear s other c least is sound k
 
-  -- where it has a cycle, the candidate is not sound
-  pub cyclic_weighs : (way : List Decision) → ds ≡ given_on way → (cost : ℕ) → IsCyclic g order → IsNoCheaper g x cost way
-  cyclic_weighs way e cost cyclic = view_weighs way e cost (λ sound c k. absurd (cyclic sound.list sound.sorted))
-
   -- where it has a least schedule, its cost counts
   pub cost_weighs : (way : List Decision) → ds ≡ given_on way → (cost : ℕ) (t : Visit → ℕ) → IsLeastSchedule g x order t → cost ≤ end_sum_of g t → IsNoCheaper g x cost way
   cost_weighs way e cost t least le = view_weighs way e cost (λ sound c k. let one = one_cost g x order c (end_sum_of g t) k (cost_of_least g x order t least) in omega (arith, one, le))
@@ -100,17 +96,18 @@ module _ (g : Graph) (x : FleetState) (state : IsFleetState g x) (ds : List Give
   pub view_best : (old : ℕ → Option Side) (best : ℕ) (t : Visit → ℕ) → IsBest g x old best → IsLeastSchedule g x order t → end_sum_of g t ≤ best → IsBest g x order (end_sum_of g t)
   view_best old best t b least le = record { sound = is_sound t least; closed = keeps_closed; costs = cost_of_least g x order t least; no_dearer = λ d k. let z = b.no_dearer d k in omega (arith, z, le) }
 
--- a candidate costs no less than the part decision
+-- a candidate goes on from the part decision
+pub candidate_extends : (g : Graph) (x : FleetState) (way : List Decision) (s : Visit → ℕ) (order : ℕ → Option Side) → IsCandidate g x way s order → Extends (order_on g x way) order
+candidate_extends g x way s order is q side e = go (is_open g x q) (side_on way q) refl refl e
+  where
+    go : (b : Bool) (o : Option Side) → is_open g x q ≡ b → side_on way q ≡ o → cond b o (order_at g x q) ≡ Some side → order q ≡ Some side
+    go false o a f h = is.closed q a ∙ h
+    go true None a f h = cc
+    go true (Some d) a f h = is.decided q side a (f ∙ h)
+
+-- so it costs no less
 pub relaxed_weighs : (g : Graph) (x : FleetState) (way : List Decision) (relaxed cost : ℕ) → IsLeastSum g x (order_on g x way) relaxed → cost ≤ relaxed → IsNoCheaper g x cost way
 relaxed_weighs g x way relaxed cost sum le s order c least is sound k =
     let mine = cost_of_least g x (order_on g x way) sum.ticks sum.least in
-    let low = mine.least k.best k.schedule (obeys_fewer g (order_on g x way) order extends x k.best k.obeys) in
+    let low = mine.least k.best k.schedule (obeys_fewer g (order_on g x way) order (candidate_extends g x way s order is) x k.best k.obeys) in
     omega (arith, low, k.sum, sum.sum_is, le)
-  where
-    extends : Extends (order_on g x way) order
-    extends q side e = go (is_open g x q) (side_on way q) refl refl e
-      where
-        go : (b : Bool) (o : Option Side) → is_open g x q ≡ b → side_on way q ≡ o → cond b o (order_at g x q) ≡ Some side → order q ≡ Some side
-        go false o a f h = is.closed q a ∙ h
-        go true None a f h = cc
-        go true (Some d) a f h = is.decided q side a (f ∙ h)

@@ -13,8 +13,7 @@ use Rattle.order_choice.specs.declared.made.Forcing.{Forcing}
 use Rattle.search_nodes.specs.Forcing.{IsForcing, HasNoForcing, AreThere, HasForced, IsAfter, given_to, given_after}
 use Rattle.search_nodes.proofs.Sides.{mate_there}
 use Rattle.search_nodes.proofs.Forcings.{IsForcingOn, given_more, forced_more, forcing_free, after_more}
-use Rattle.search_nodes.specs.Settling.{missing}
-use Rattle.search_nodes.proofs.Suspects.{decided_fewer, forced_next}
+use Rattle.search_nodes.proofs.Suspects.{missing, decided_fewer, forced_next}
 
 -- one call more counts for no less
 pub asked_more : (n : ℕ) → n < 2 ^ 64 → n ≤ one_more n

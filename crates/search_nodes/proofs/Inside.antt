@@ -41,10 +41,6 @@ module _ (m : Inside) (i : IsMaker m) (now : Making) (e : making_of m ≡ now) w
   pub candidate_live : IsViewOf m.live.graph m.candidate
   candidate_live = subst (λ (g : Graph). IsViewOf g m.candidate) (sym i.live_graph) i.candidate
 
-  -- it is still a maker with another candidate
-  pub with_candidate : (candidate : OrientedGraph) → IsViewOf m.live.graph candidate → IsMaker (record m { candidate = candidate })
-  with_candidate candidate is = record { rules = i.rules; live_graph = i.live_graph; live_state = i.live_state; candidate = subst (λ (g : Graph). IsViewOf g candidate) i.live_graph is; best_view = i.best_view; best = i.best }
-
 -- whatever a schedule answers to a decision, its graph and its state stay
 pub same_whole : (b : Bool) (old new : Deciding) (d : Given) → (b ≡ true → new ≡ record old { decisions = d ∷ old.decisions; asked = one_more old.asked }) → (b ≡ false → new ≡ record old { asked = one_more old.asked }) → (new.graph ≡ old.graph) × (new.state ≡ old.state)
 same_whole true old new d kept refused = let e = kept refl in (ap (λ (x : Deciding). x.graph) e, ap (λ (x : Deciding). x.state) e)

@@ -13,4 +13,4 @@ pub mod Nodes
 pub mod Inside
 pub mod Undoing
 pub mod Weighed
-pub mod Towards
+pub mod Parting

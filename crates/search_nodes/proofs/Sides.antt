@@ -27,10 +27,6 @@ pub no_side : (o : Option Side) → false ≡ is_some o → o ≡ None
 no_side None e = refl
 no_side (Some side) e = absurd (let z = e in cc)
 
-pub some_side : (o : Option Side) → true ≡ is_some o → (side : Side) × (o ≡ Some side)
-some_side None e = absurd (let z = e in cc)
-some_side (Some side) e = (side, refl)
-
 -- mates are pairs
 pub mate_there : (g : Graph) (q r : ℕ) → AreMates g q r → r < length g.pairs
 mate_there g q r m = slice_get_within g.pairs r m.two m.two_listed

@@ -10,12 +10,11 @@ use Rattle.fleet_base.specs.Groups.{AreMates}
 use Rattle.fleet_base.specs.State.{FleetState}
 use Rattle.fleet_base.proofs.Members.{head_in, tail_in, in_cons, in_none, element_at, place_of_element}
 use Rattle.fleet_base.specs.Lists.{row_of}
+use Rattle.fleet_base.proofs.Mates.{mates_turned}
 use Rattle.edge_groups.specs.Mates.{AreAllMates}
-use Rattle.edge_groups.proofs.RankLaws.{mates_turned}
 use Rattle.longest_path.specs.declared.decision.Decision.{Decision as Given}
 use Rattle.longest_path.specs.Decisions.{order_on, IsFree}
 use Rattle.longest_path.proofs.LiveLaws.{one_side_more}
-use Rattle.search_nodes.specs.Settling.{without, missing}
 use Rattle.search_nodes.specs.Forcing.{HasNoForcing, AreThere, HasForced, IsForcedBy, given_to}
 use Rattle.search_nodes.proofs.Sides.{some_or_none, not_both, has_side, none_of_free, decided_side, pair_there, mate_there}
 
@@ -26,6 +25,16 @@ row_mate g rows q k r all lt at = (all.lists q lt).mates r (element_at (row_of r
 -- and each mate is listed
 pub mate_row : (g : Graph) (rows : List (List PairId)) (q r : ℕ) → AreAllMates g rows → q < length g.pairs → AreMates g q r → (k : ℕ) × (k < length (row_of rows q)) × (slice_get (row_of rows q) k ≡ Some (record { 0 = r }))
 mate_row g rows q r all lt m = place_of_element (row_of rows q) (record { 0 = r }) ((all.lists q lt).each (record { 0 = r }) m)
+
+-- whether a pair has no side, as a number
+abbrev pub without : Option Side → ℕ
+without None = 1
+without (Some side) = 0
+
+-- how many of the first so many pairs have no side
+abbrev pub missing : (ℕ → Option Side) → ℕ → ℕ
+missing order zero = 0
+missing order (suc n) = without (order n) + missing order n
 
 -- with a side for one of them there is one less
 missing_same : (order more : ℕ → Option Side) (p n : ℕ) → ((r : ℕ) → r ≢ p → more r ≡ order r) → n ≤ p → missing more n ≡ missing order n

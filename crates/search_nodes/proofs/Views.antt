@@ -48,9 +48,6 @@ view_is g order n view all past w q = go (cases_lt q n)
 abbrev pub HasCandidateSide : Graph → FleetState → (ℕ → Option Side) → ℕ → Option Side → Type 0
 HasCandidateSide g x given q o = (side : Side) × (o ≡ Some side) × IsCandidateSide g x given q side
 
-pub candidate_is : (g : Graph) (x : FleetState) (given : ℕ → Option Side) (n : ℕ) (view : OrientedGraph) → length g.pairs ≤ n → IsWrittenTo g (HasCandidateSide g x given) n view → IsCandidateOrder g x given (order_in view)
-candidate_is g x given n view all w = record { sides = λ q lt. w.done q (omega (arith, all, lt)); past = view_past g view w.is }
-
 -- what holds of every error holds where there is one
 where_err : {A E : Type 0} (P : Type 0) (r : Result A E) → IsErr r → OnErr r P → P
 where_err P (Ok a) e h = absurd (let z = e in cc)

@@ -3,4 +3,3 @@ pub mod Making
 pub mod Kept
 pub mod Forcing
 pub mod Weighing
-pub mod Settling

@@ -24,6 +24,14 @@ best_order m = order_in (record { graph = m.graph; sides = m.best })
 abbrev pub given_on : List Decision → List Given
 given_on way = map (λ d. record { pair = record { 0 = d.pair }; side = d.side }) way
 
+-- the same state and the same best order, and decisions were asked for no less often
+pub record KeepsBest (old new : Making) : Type 0 where
+  pub graph : new.graph ≡ old.graph
+  pub state : new.state ≡ old.state
+  pub best : new.best ≡ old.best
+  pub cost : new.cost ≡ old.cost
+  pub asked : old.asked ≤ new.asked
+
 -- the state and the decisions are as before, the best order is no dearer, and decisions were asked for so often at least
 pub record IsBack (old new : Making) (count : ℕ) : Type 0 where
   pub graph : new.graph ≡ old.graph

@@ -3,9 +3,10 @@ use Rattle.std.specs.Prelude.{ℕ, ◌≡◌, ◌<◌, ◌≤◌, length, slice_
 use Rattle.fleet_base.specs.declared.geometry.Visit.{Visit}
 use Rattle.fleet_base.specs.declared.order.Pair.{Pair}
 use Rattle.fleet_base.specs.declared.order.Side.{Side}
-use Rattle.fleet_base.specs.Order.{Graph, IsCycle}
+use Rattle.fleet_base.specs.Order.{Graph, IsCycle, IsSoundOrder, other_side}
 use Rattle.fleet_base.specs.State.{FleetState, order_at}
-use Rattle.fleet_base.specs.Schedule.{IsLeastSchedule, ObeysSide, end_sum_of}
+use Rattle.fleet_base.specs.Groups.{AreMates}
+use Rattle.fleet_base.specs.Schedule.{IsCost, IsLeastSchedule, ObeysSide, end_sum_of}
 use Rattle.plan_graph.specs.Views.{OrientedGraph}
 use Rattle.order_choice.specs.declared.made.Stand.{Stand}
 use Rattle.order_choice.specs.declared.made.Stand.TheVariants.{Round, Waiting, Expanded}
@@ -26,6 +27,18 @@ pub record IsCandidateSide (g : Graph) (x : FleetState) (order : ℕ → Option 
 pub record IsCandidateOrder (g : Graph) (x : FleetState) (given order : ℕ → Option Side) : Type 0 where
   pub sides : (q : ℕ) → q < length g.pairs → (side : Side) × (order q ≡ Some side) × IsCandidateSide g x given q side
   pub past : (q : ℕ) → length g.pairs ≤ q → order q ≡ None
+
+-- in the candidate of an order a pair has another side than one of its mates
+pub record IsPartedAt (g : Graph) (x : FleetState) (order : ℕ → Option Side) (q : ℕ) : Type 0 where
+  pub mate : ℕ
+  pub mates : AreMates g q mate
+  pub side : Side
+  pub here : IsCandidateSide g x order q side
+  pub there : IsCandidateSide g x order mate (other_side side)
+
+-- an order is not sound, or costs at least so much
+abbrev pub IsDear : Graph → FleetState → (ℕ → Option Side) → ℕ → Type 0
+IsDear g x order bound = IsSoundOrder g order → (c : ℕ) → IsCost g x order c → bound ≤ c
 
 -- a view is of a graph, with a place for each pair
 pub record IsViewOf (g : Graph) (view : OrientedGraph) : Type 0 where

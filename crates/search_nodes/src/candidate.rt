@@ -75,7 +75,7 @@ fn suggested_side(graph: &PlanGraph, live: &Live<'_>, fleet: &Fleet, q: PairId) 
 }
 
 /// The side of a pair in the candidate.
-fn candidate_side(graph: &PlanGraph, live: &Live<'_>, fleet: &Fleet, q: PairId) -> Side
+pub(crate) fn candidate_side(graph: &PlanGraph, live: &Live<'_>, fleet: &Fleet, q: PairId) -> Side
     requires graph { graph.now ≡ live.now.graph }
     requires state { IsFleetState live.now.graph live.now.state }
     requires fleet { fleet.now ≡ live.now.state }

@@ -7,7 +7,7 @@ mod forcing;
 mod maker;
 mod making;
 mod room;
-mod settling;
+mod weighing;
 
 pub use maker::Maker;
 pub use room::Room;

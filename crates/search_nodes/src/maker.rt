@@ -38,6 +38,8 @@ pub struct Maker<'g, 'f> {
     pub(crate) candidate: Oriented<'g>,
     pub(crate) best: Oriented<'g>,
     pub(crate) cost: u64,
+    /// The pair that the last candidate parted from a mate, if any did.
+    pub(crate) parted: PairId,
 }
 
 impl<'g, 'f> Model for Maker<'g, 'f> {
@@ -80,6 +82,7 @@ impl<'g, 'f> Maker<'g, 'f> {
             candidate,
             best,
             cost,
+            parted: PairId(0),
         })
     }
 

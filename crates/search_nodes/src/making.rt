@@ -17,7 +17,7 @@ ghost use Rattle.search_nodes.specs.Weighing.{IsLeastSum, IsRound};
 
 use crate::candidate::{cycle_with, write_candidate};
 use crate::forcing::{Suspects, force, forced_pairs, suspect_mates, undo_to};
-use crate::settling::cost_below;
+use crate::weighing::{cost_below, parted_pair};
 use crate::{Maker, Room};
 use edge_groups::GroupTable;
 use fleet_base::{Items, Memory, PairId, Side, Visit};
@@ -130,7 +130,7 @@ impl<'g, 'f> Maker<'g, 'f> {
             let stand = self.round(alloc, ticks, refused.pair, refused.side)?;
             return Ok(MadeNode { forced, stand });
         }
-        let cost = self.weigh();
+        let cost = self.weigh(groups, ticks);
         let stand = Stand::Waiting { cost };
         Ok(MadeNode { forced, stand })
     }
@@ -227,10 +227,13 @@ impl<'g, 'f> Maker<'g, 'f> {
 
     /// The relaxed cost of the decisions in force. Where it is below the best cost, their candidate is weighed: else it
     /// cannot be cheaper.
-    fn weigh(&mut self) -> u64
+    fn weigh(&mut self, groups: &GroupTable, ticks: &mut Ticks) -> u64
+        requires mates { AreAllMates self.old.graph groups.now }
+        requires room { IsKeptFor self.old.graph ticks.old }
         ensures relaxed { IsLeastSum self.old.graph self.old.state (order_on self.old.graph self.old.state self.old.decisions) result }
         ensures weighed { (way : List Decision) → self.old.decisions ≡ given_on way → IsNoCheaper self.old.graph self.old.state self.new.cost way }
         ensures back { IsBack self.old self.new self.old.asked }
+        ensures room { IsKeptFor self.old.graph ticks.new }
     {
         let _some = self.graph.robots();
         let _least = self.live.at(Visit { robot: 0, index: 0 });
@@ -238,23 +241,27 @@ impl<'g, 'f> Maker<'g, 'f> {
         if self.cost <= relaxed {
             return relaxed;
         }
-        self.weigh_candidate();
+        self.weigh_candidate(groups, ticks);
         relaxed
     }
 
-    /// A candidate that is sound and costs less than the best order takes its place.
-    fn weigh_candidate(&mut self)
+    /// A candidate that is sound and costs less than the best order takes its place. Most candidates part a pair from a
+    /// mate, often the same pair as the one before did, and need not be written.
+    fn weigh_candidate(&mut self, groups: &GroupTable, ticks: &mut Ticks)
+        requires mates { AreAllMates self.old.graph groups.now }
+        requires room { IsKeptFor self.old.graph ticks.old }
         ensures weighed { (way : List Decision) → self.old.decisions ≡ given_on way → IsNoCheaper self.old.graph self.old.state self.new.cost way }
         ensures back { IsBack self.old self.new self.old.asked }
+        ensures room { IsKeptFor self.old.graph ticks.new }
     {
-        write_candidate(&mut self.candidate, &self.live, self.fleet);
-        let depth = self.live.depth();
-        let below = cost_below(&mut self.live, self.fleet, &self.candidate, self.cost);
-        undo_to(&mut self.live, depth);
-        let Some(cost) = below else {
+        if let Some(q) = parted_pair(self.graph, &self.live, self.fleet, groups, self.parted) {
+            self.parted = q;
             return;
-        };
-        swap(&mut self.candidate, &mut self.best);
-        self.cost = cost;
+        }
+        write_candidate(&mut self.candidate, &self.live, self.fleet);
+        if let Some(cost) = cost_below(&self.candidate, self.fleet, ticks, self.cost) {
+            swap(&mut self.candidate, &mut self.best);
+            self.cost = cost;
+        }
     }
 }

@@ -1,6 +1,6 @@
 use Rattle.std.proofs.lemmas.Option.{slice_get_within}
 use Rattle.search_line.proofs.Climbing.{below_later, below_less}
-use Rattle.search_line.proofs.Deciding.{elsewhere_then}
+use Rattle.search_line.proofs.Deciding.{best_then}
 use Rattle.search_line.proofs.going.climb.Goals as goal
 
 pub leave-requires-clause-child : goal.leave-requires-clause-child
@@ -18,5 +18,5 @@ loop-at-preserved c =
     record {
       those = c.leave.ensures.parent c.origin_of-at.result c.origin_of-at.ensures.origin;
       below = below_less c.args.nodes.now c.loop-at.at c.args.above c.origin_of-at.result i.below c.loop-at-test.true c.origin_of-at.ensures.origin;
-      elsewhere = elsewhere_then c.args.maker.now c.loop-at.maker c.leave.new.maker i.elsewhere c.leave.ensures.elsewhere;
+      best = best_then c.args.maker.now c.loop-at.maker c.leave.new.maker i.best c.leave.ensures.best;
     }

@@ -4,8 +4,9 @@ use Rattle.std.proofs.lemmas.Option.{slice_get_read, slice_get_within}
 use Rattle.longest_path.specs.declared.decision.Decision.{Decision as Given}
 use Rattle.order_choice.specs.declared.made.Forcing.{Forcing}
 use Rattle.search_line.specs.declared.kept.Kept.{Kept}
-use Rattle.search_line.specs.Going.{AreThoseOf, given_with}
-use Rattle.search_line.proofs.Deciding.{given, can_enter, can_force_at}
+use Rattle.search_line.specs.Going.{AreThoseOf}
+use Rattle.search_line.proofs.Deciding.{can_enter, can_force_at}
+use Rattle.search_nodes.specs.Forcing.{given_to, given_after}
 use Rattle.search_line.proofs.going.enter.Goals as goal
 
 pub descend-requires-clause-free : goal.descend-requires-clause-free
@@ -35,7 +36,7 @@ force-requires c =
     let kept = c.index-nodes-number.result in
     let there : slice_get nodes c.args.number ≡ Some kept = slice_get_read nodes (length nodes) c.args.number kept refl (slice_get_within nodes c.args.number s.kept s.there) c.index-nodes-number.is in
     let can = can_enter m.graph m.state nodes c.args.number o.result m.decisions kept c.requires.state c.requires.ways c.requires.right c.requires.child s there o.ensures.origin (c.requires.parent o.result o.ensures.origin) in
-    can_force_at m.graph n.graph m.state n.state (given o.result.pair o.result.side ∷ m.decisions) n.decisions kept.node.forced c.as_slice.result.now c.descend.ensures.graph c.descend.ensures.state c.descend.ensures.decisions (c.as_slice.ensures ∙ ap (λ (z : Kept). z.node.forced) (sym c.index-nodes-number.is)) can.force
+    can_force_at m.graph n.graph m.state n.state (given_to o.result.pair o.result.side ∷ m.decisions) n.decisions kept.node.forced c.as_slice.result.now c.descend.ensures.graph c.descend.ensures.state c.descend.ensures.decisions (c.as_slice.ensures ∙ ap (λ (z : Kept). z.node.forced) (sym c.index-nodes-number.is)) can.force
 
 pub returns-clause-there : goal.returns-clause-there
 returns-clause-there c =
@@ -47,5 +48,5 @@ returns-clause-there c =
     let kept = c.index-nodes-number.result in
     let there : slice_get nodes c.args.number ≡ Some kept = slice_get_read nodes (length nodes) c.args.number kept refl (slice_get_within nodes c.args.number s.kept s.there) c.index-nodes-number.is in
     let can = can_enter m.graph m.state nodes c.args.number o.result m.decisions kept c.requires.state c.requires.ways c.requires.right c.requires.child s there o.ensures.origin (c.requires.parent o.result o.ensures.origin) in
-    let e : c.force.new.maker.decisions ≡ given_with kept.node.forced (given o.result.pair o.result.side ∷ m.decisions) = c.force.ensures.decisions ∙ ap (λ (z : List Forcing). given_with z n.decisions) (c.as_slice.ensures ∙ ap (λ (z : Kept). z.node.forced) (sym c.index-nodes-number.is)) ∙ ap (λ (z : List Given). given_with kept.node.forced z) c.descend.ensures.decisions in
+    let e : c.force.new.maker.decisions ≡ given_after kept.node.forced (given_to o.result.pair o.result.side ∷ m.decisions) = c.force.ensures.decisions ∙ ap (λ (z : List Forcing). given_after z n.decisions) (c.as_slice.ensures ∙ ap (λ (z : Kept). z.node.forced) (sym c.index-nodes-number.is)) ∙ ap (λ (z : List Given). given_after kept.node.forced z) c.descend.ensures.decisions in
     subst (λ (z : List Given). AreThoseOf nodes c.args.number z) (sym e) can.there

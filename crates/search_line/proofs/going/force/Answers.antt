@@ -3,8 +3,9 @@ use Rattle.std.proofs.lemmas.List.{drop_more}
 use Rattle.fleet_base.specs.declared.order.Side.TheVariants.{Lower}
 use Rattle.longest_path.specs.declared.decision.Decision.{Decision as Given}
 use Rattle.order_choice.specs.declared.made.Forcing.{Forcing}
-use Rattle.search_line.specs.Going.{CanForce, given_with}
-use Rattle.search_line.proofs.Deciding.{force_first, force_rest, can_force_at, elsewhere_then}
+use Rattle.search_line.specs.Going.{CanForce}
+use Rattle.search_line.proofs.Deciding.{force_first, force_rest, can_force_at, best_then}
+use Rattle.search_nodes.specs.Forcing.{given_after}
 use Rattle.search_line.proofs.going.force.Goals as goal
 
 abbrev none : Forcing
@@ -34,6 +35,6 @@ loop-forcing-preserved c =
     let e = c.descend.ensures in
     record {
       can = can_force_at m.graph n.graph m.state n.state (record { pair = (get_or fs k none).pair; side = (get_or fs k none).side } ∷ m.decisions) n.decisions (drop (k + 1) fs) (drop (k + 1) fs) e.graph e.state e.decisions refl (force_rest m.graph m.state m.decisions (get_or fs k none) (drop (k + 1) fs) (subst (λ (z : List Forcing). CanForce m.graph m.state m.decisions z) more c.loop-forcing.invariant.can));
-      same = ap (λ (z : List Given). given_with (drop (k + 1) fs) z) e.decisions ∙ sym (ap (λ (z : List Forcing). given_with z m.decisions) more) ∙ c.loop-forcing.invariant.same;
-      elsewhere = elsewhere_then c.args.maker.now m n c.loop-forcing.invariant.elsewhere (record { graph = e.graph; state = e.state; best = e.best; cost = e.cost; asked = e.asked });
+      same = ap (λ (z : List Given). given_after (drop (k + 1) fs) z) e.decisions ∙ sym (ap (λ (z : List Forcing). given_after z m.decisions) more) ∙ c.loop-forcing.invariant.same;
+      best = best_then c.args.maker.now m n c.loop-forcing.invariant.best (record { graph = e.graph; state = e.state; best = e.best; cost = e.cost; asked = e.asked });
     }

@@ -2,12 +2,12 @@ use Rattle.std.proofs.Common.{ℕ, ◌≡◌, ◌∷◌, [], ◌++◌, List, sym
 use Rattle.search_line.specs.declared.kept.Origin.{Origin}
 use Rattle.search_line.specs.Going.{AreThoseOf, LeadUp}
 use Rattle.search_line.proofs.Climbing.{down_one, one_from, from_later, stands_up}
-use Rattle.search_line.proofs.Deciding.{elsewhere_then}
-use Rattle.search_line.proofs.Reaching.{right_elsewhere}
+use Rattle.search_line.proofs.Deciding.{best_then}
+use Rattle.search_line.proofs.Reaching.{right_kept}
 use Rattle.search_line.proofs.going.go_down.Goals as goal
 
 pub enter-requires-clause-right : goal.enter-requires-clause-right
-enter-requires-clause-right c = right_elsewhere c.args.maker.now c.loop-number.maker c.args.nodes.now c.loop-number.invariant.elsewhere c.requires.right
+enter-requires-clause-right c = right_kept c.args.maker.now c.loop-number.maker c.args.nodes.now c.loop-number.invariant.best c.requires.right
 
 pub enter-requires-clause-child : goal.enter-requires-clause-child
 enter-requires-clause-child c =
@@ -46,5 +46,5 @@ loop-number-preserved c =
           let i = c.loop-number.invariant.there below above up force in
           let e = down_one nodes below c.pop.new.self.items c.in-Some.number i.0 (subst (λ (z : List ℕ). LeadUp nodes below z i.0) items i.2) in
           (c.in-Some.number, c.enter.ensures.there, e.rest);
-      elsewhere = elsewhere_then c.args.maker.now c.loop-number.maker c.enter.new.maker c.loop-number.invariant.elsewhere c.enter.ensures.elsewhere;
+      best = best_then c.args.maker.now c.loop-number.maker c.enter.new.maker c.loop-number.invariant.best c.enter.ensures.best;
     }

@@ -3,8 +3,8 @@ use Rattle.std.specs.Prelude.{slice_get, slice_index}
 use Rattle.fleet_base.specs.declared.geometry.Visit.{Visit}
 use Rattle.fleet_base.specs.Order.{Graph, IsVisit, next_visit}
 use Rattle.fleet_base.specs.State.{FleetState, delay_of}
-use Rattle.plan_graph.specs.Limits.{IsWithinLimits}
 use Rattle.plan_graph.proofs.PlanGraphs.{index_within}
+use Rattle.plan_graph.specs.Limits.{IsGraphWithinLimits}
 use Rattle.longest_path.specs.Deciding.{order_in_force}
 use Rattle.longest_path.proofs.LiveLaws.{open_within}
 use Rattle.search_nodes.proofs.Conflicts.{tail_is, head_is, obeys_told}
@@ -18,7 +18,7 @@ overflow_add-tail c =
     let g = c.args.live.now.graph in
     let at : slice_get g.pairs c.args.q.0 ≡ Some c.pair.result = subst (λ (h : Graph). slice_get h.pairs c.args.q.0 ≡ Some c.pair.result) c.requires.graph c.pair.ensures in
     let there : IsVisit g (next_visit c.visits_of.result.0) = subst (λ (v : Visit). IsVisit g (next_visit v)) (sym c.visits_of.ensures.first) (tail_is g c.args.live.now.state c.requires.state c.args.q.0 c.pair.result c.args.side c.requires.open at) in
-    let limits : IsWithinLimits g = subst (λ (h : Graph). IsWithinLimits h) c.requires.graph c.robots-within.ensures.limits in
+    let limits : IsGraphWithinLimits g = subst (λ (h : Graph). IsGraphWithinLimits h) c.requires.graph c.robots-within.ensures.limits in
     omega (arith, index_within g limits (next_visit c.visits_of.result.0) there)
 
 pub at-begins-requires : goal.at-begins-requires

@@ -1,7 +1,7 @@
 use Rattle.std.proofs.Common.{length}
 use Rattle.longest_path.specs.Deciding.{order_in_force}
 use Rattle.search_nodes.proofs.Forcings.{IsForcingOn}
-use Rattle.search_nodes.specs.Settling.{missing}
+use Rattle.search_nodes.proofs.Suspects.{missing}
 use Rattle.search_nodes.proofs.forcing.force.Given as goal
 
 abbrev pub invariant-loop-forcing : goal.invariant-loop-forcing

@@ -1,9 +1,9 @@
 use Rattle.std.proofs.Common.{◌≡◌, None, sym, ◌∙◌, arith, get_or}
-use Rattle.edge_groups.proofs.RankLaws.{mates_turned}
 use Rattle.longest_path.specs.Deciding.{order_in_force}
 use Rattle.search_nodes.proofs.Sides.{mate_there, no_side}
 use Rattle.search_nodes.proofs.Suspects.{read_mate, read_more, all_read}
 use Rattle.search_nodes.proofs.forcing.forcing_of.Goals as goal
+use Rattle.fleet_base.proofs.Mates.{mates_turned}
 
 pub side-requires-in-loop-mate : goal.side-requires-in-loop-mate
 side-requires-in-loop-mate c =

@@ -1,6 +1,7 @@
 use Rattle.std.proofs.Common.{◌≡◌}
-use Rattle.bound_search.specs.UnderWay.{IsUnderWay, KeepsBest}
+use Rattle.bound_search.specs.UnderWay.{IsUnderWay}
 use Rattle.bound_search.specs.Walking.{IsWalked}
+use Rattle.search_nodes.specs.Making.{KeepsBest}
 use Rattle.bound_search.proofs.under_way.Search.write.Given as goal
 
 abbrev pub invariant-loop-walk : goal.invariant-loop-walk

@@ -5,7 +5,7 @@ use Rattle.search_line.specs.declared.kept.Kept.{Kept}
 use Rattle.search_line.specs.Going.{HasNoCycle}
 use Rattle.search_line.proofs.Climbing.{root_top, stands_up}
 use Rattle.search_line.proofs.Holding.{IsLineOf, opened}
-use Rattle.search_line.proofs.Reaching.{each_way, all_right, begins_at, begins_within, no_cycle, arrived, right_elsewhere}
+use Rattle.search_line.proofs.Reaching.{each_way, all_right, begins_at, begins_within, no_cycle, arrived, right_kept}
 use Rattle.search_line.proofs.line.Line.go.Goals as goal
 
 pub shared_above-above-requires-clause-ways : goal.shared_above-above-requires-clause-ways
@@ -110,7 +110,7 @@ go_down-requires-clause-right c =
     let turns = c.self.inside.turns in
     let line = c.args.self.now in
     let was : IsLineOf nodes turns line = subst (λ (z : List Kept). IsLineOf z turns line) (sym c.as_slice-nodes.ensures.value) (opened c.self.inside line c.self.invariant c.self.view_is) in
-    right_elsewhere c.args.maker.now c.rise.new.maker nodes c.rise.ensures.elsewhere (all_right nodes turns line was c.args.maker.now.graph c.args.maker.now.state c.requires.right)
+    right_kept c.args.maker.now c.rise.new.maker nodes c.rise.ensures.best (all_right nodes turns line was c.args.maker.now.graph c.args.maker.now.state c.requires.right)
 
 pub go_down-requires-clause-down : goal.go_down-requires-clause-down
 go_down-requires-clause-down c =
