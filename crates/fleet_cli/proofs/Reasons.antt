@@ -3,8 +3,8 @@ use Rattle.std.proofs.Common.{ℕ, suc, zero, ◌≡◌, ◌+◌, ◌<◌, ◌�
 use Rattle.fleet_base.specs.declared.geometry.Cell.{Cell}
 use Rattle.fleet_base.specs.declared.geometry.PlannedVisit.{PlannedVisit}
 use Rattle.fleet_base.specs.Grid.{OccupancyGrid}
+use Rattle.fleet_base.specs.Plan.{HasRobots}
 use Rattle.plan_text.specs.PlanText.{IsPlanText, AreRobotLines, robot_lines}
-use Rattle.plan_check.specs.Faults.{HasRobots}
 use Rattle.fleet_cli.specs.declared.fault.Paper.TheVariants as paper
 use Rattle.fleet_cli.specs.declared.fault.Fault.TheVariants.{Usage, Long, Unread, Map, Plan, Unsound, Pairs, Scen, BadTask, NoPath}
 use Rattle.fleet_cli.specs.declared.fault.Refusal.{Refusal}

@@ -1,11 +1,10 @@
 // The map and the plan of a command.
 ghost use Rattle.std.specs.Prelude.{◌≡◌, ◌^◌, ◌≤◌, ℕ, List, length, IfOk, IfErr, OnOk};
-ghost use Rattle.fleet_base.specs.Plan.{IsAccepted, visits_of};
+ghost use Rattle.fleet_base.specs.Plan.{IsAccepted, visits_of, HasRobots};
 ghost use Rattle.fleet_base.specs.Pairs.{pairs_of};
 ghost use Rattle.station_api.specs.Causes.{Counted, Rose};
 ghost use Rattle.map_text.specs.MapText.{IsMapText};
 ghost use Rattle.plan_text.specs.PlanText.{IsPlanText};
-ghost use Rattle.plan_check.specs.Faults.{HasRobots};
 ghost use Rattle.fleet_cli.specs.Papers.{Files, bytes_of, IsPaper, IsSoundPaper};
 ghost use Rattle.fleet_cli.specs.Fetching.{Counts, IsUnfetched, IsMapRefusal, IsPlanRefusal, IsUnsoundRefusal, IsPairsRefusal, HasReason};
 

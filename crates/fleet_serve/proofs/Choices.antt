@@ -7,10 +7,9 @@ use Rattle.fleet_base.specs.declared.order.Side.{Side}
 use Rattle.fleet_base.specs.declared.report.Report.{Report}
 use Rattle.fleet_base.specs.declared.report.Report.TheVariants.{Delay}
 use Rattle.fleet_base.specs.Order.{Graph, IsSoundOrder}
-use Rattle.fleet_base.specs.Open.{is_open}
+use Rattle.fleet_base.specs.Open.{is_open, KeepsClosed}
 use Rattle.fleet_base.specs.State.{FleetState}
 use Rattle.fleet_base.specs.Rules.{IsFleetState}
-use Rattle.cert_tree.specs.Orders.{KeepsClosed}
 use Rattle.order_choice.specs.declared.outcome.Outcome.{Outcome}
 use Rattle.order_choice.specs.Choices.{IsChosen, AreSwitches}
 use Rattle.order_choice.proofs.Switches.{opens, switched_choice}

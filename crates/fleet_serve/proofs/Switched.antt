@@ -9,11 +9,10 @@ use Rattle.fleet_base.specs.declared.order.PairId.{PairId}
 use Rattle.fleet_base.specs.declared.order.Side.{Side}
 use Rattle.fleet_base.specs.Order.{Graph}
 use Rattle.fleet_base.specs.State.{FleetState, order_at}
-use Rattle.fleet_base.specs.Open.{is_open}
+use Rattle.fleet_base.specs.Open.{is_open, KeepsClosed}
 use Rattle.fleet_base.proofs.Members.{head_in, in_one, in_none}
 use Rattle.edge_groups.proofs.Ascending.{Ascends, ascends_append}
 use Rattle.longest_path.proofs.LiveLaws.{open_within}
-use Rattle.cert_tree.specs.Orders.{KeepsClosed}
 use Rattle.order_choice.specs.Choices.{AreSwitches}
 
 -- a pair's number

@@ -2,11 +2,10 @@
 ghost use Rattle.std.specs.Prelude.{ℕ, List, ◌≡◌, ◌↔◌, ◌<◌, ◌≤◌, ◌^◌, ◌∷◌, [], All, map, length, true, IsTrue, IfOk};
 ghost use Rattle.std.specs.List.Sorted.{IsStrictlyIncreasing};
 ghost use Rattle.fleet_base.specs.Order.{IsSoundOrder, order_of, turned};
-ghost use Rattle.fleet_base.specs.Open.{is_open};
+ghost use Rattle.fleet_base.specs.Open.{is_open, KeepsClosed};
 ghost use Rattle.fleet_base.specs.Rules.{IsFleetState};
 ghost use Rattle.plan_graph.specs.Views.{order_in};
 ghost use Rattle.cert_tree.specs.CertText.{IsWritten};
-ghost use Rattle.cert_tree.specs.Orders.{KeepsClosed};
 ghost use Rattle.order_choice.specs.Choices.{AreSwitches, cert_of};
 ghost use Rattle.search_nodes.specs.Rooms.{IsRoomFor};
 ghost use Rattle.fleet_core.specs.declared.judging.Judged.TheVariants.{Accept};
