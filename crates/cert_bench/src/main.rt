@@ -10,9 +10,8 @@ mod tree;
 use crate::checks::judged;
 use crate::crossings::Crossings;
 use crate::tree::{Kind, Tree};
-use fleet_base::read_number;
+use bench_base::{number, words};
 use std::process::ExitCode;
-use std::{env, io};
 
 /// Ends with 0 where each check said Yes, with 1 where one said No, with 2 where there is no such plan or tree, and with 3
 /// where the words are not read.
@@ -24,17 +23,6 @@ fn main(rt: HostRuntime) -> ExitCode {
         Some(tree) => run(rt, &tree, number(&words, 4), number(&words, 5)),
         None => ExitCode::from(3),
     }
-}
-
-/// The words of the command line, without the program's own name.
-fn words(rt: HostRuntime) -> io::Result<Vec<String>> {
-    let mut words = Vec::new(rt.alloc());
-    for word in env::args(&rt)?.skip(1) {
-        words
-            .push(word)
-            .map_err(|_| io::Error::from(io::ErrorKind::OutOfMemory))?;
-    }
-    Ok(words)
 }
 
 /// The tree that the words ask for.
@@ -53,14 +41,6 @@ fn wanted(words: &[String]) -> Option<Tree> {
         crossings: Crossings { count, arm },
         depth,
     })
-}
-
-/// The number that a word spells; 0 where it spells none.
-fn number(words: &[String], at: usize) -> u64 {
-    match words.get(at) {
-        Some(word) => read_number(word.as_bytes()).unwrap_or(0),
-        None => 0,
-    }
 }
 
 fn run(rt: HostRuntime, tree: &Tree, reads: u64, checks: u64) -> ExitCode {

@@ -1,6 +1,6 @@
 // The plan's first state.
 ghost use Rattle.std.specs.Prelude.{IfSome};
-ghost use Rattle.plan_check.specs.Faults.{HasRobots};
+ghost use Rattle.fleet_base.specs.Plan.{HasRobots};
 ghost use Rattle.fleet_base.specs.Rules.{IsFleetState};
 
 use crate::crossings::Crossings;

@@ -6,9 +6,9 @@ mod draws;
 mod plans;
 
 use crate::plans::{Draw, Outcome};
-use fleet_base::read_number;
+use bench_base::{number, words};
+use std::io;
 use std::process::ExitCode;
-use std::{env, io};
 
 /// Writes what became of the last plan and ends with 0; ends with 2 where there is no such map or memory is wanting, and
 /// with 3 where words are not read or the line is not written.
@@ -19,25 +19,14 @@ fn main(rt: HostRuntime) -> ExitCode {
     }
 }
 
-/// The words of the command line, without the program's own name.
-fn words(rt: HostRuntime) -> io::Result<Vec<String>> {
-    let mut words = Vec::new(rt.alloc());
-    for word in env::args(&rt)?.skip(1) {
-        words
-            .push(word)
-            .map_err(|_| io::Error::from(io::ErrorKind::OutOfMemory))?;
-    }
-    Ok(words)
-}
-
 fn run(rt: HostRuntime, words: &[String]) -> ExitCode {
     let draw = Draw {
-        robots: number(words, 0),
-        side: number(words, 1),
-        blocked: number(words, 3),
-        seed: number(words, 4),
+        robots: small(words, 0),
+        side: small(words, 1),
+        blocked: small(words, 3),
+        seed: small(words, 4),
     };
-    match plans::planned(rt.alloc(), draw, number(words, 2), number(words, 5)) {
+    match plans::planned(rt.alloc(), draw, small(words, 2), small(words, 5)) {
         Some(outcome) => match told(rt, outcome) {
             Ok(()) => ExitCode::from(0),
             Err(_) => ExitCode::from(3),
@@ -56,12 +45,6 @@ fn told(rt: HostRuntime, outcome: Outcome) -> io::Result<()> {
 }
 
 /// The number that a word spells; 0 where it spells none below 2^32.
-fn number(words: &[String], at: usize) -> u32 {
-    match words.get(at) {
-        Some(word) => match read_number(word.as_bytes()) {
-            Some(number) => u32::try_from(number).ok().unwrap_or(0),
-            None => 0,
-        },
-        None => 0,
-    }
+fn small(words: &[String], at: usize) -> u32 {
+    u32::try_from(number(words, at)).ok().unwrap_or(0)
 }

@@ -9,7 +9,7 @@ mod steps;
 mod walks;
 
 pub use events::{Event, arrive, delay, switching};
-pub use plans::{CORRIDOR, CROSSING, Texts, listed, sound_plan};
+pub use plans::{CORRIDOR, CROSSING, Texts, listed, planned, sound_plan};
 pub use states::{after, first, first_ahead, view_of};
 pub use steps::{Outcome, step};
 pub use walks::{Dice, SQUARE, drawn_walks, text_of};

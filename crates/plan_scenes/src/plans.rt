@@ -1,15 +1,18 @@
 // Sound plans from the texts of their maps and of themselves.
 ghost use Rattle.std.specs.Prelude.{◌≡◌, ◌≤◌, ◌^◌, length, IfOk};
+ghost use Rattle.fleet_base.specs.Pairs.{pairs_of};
 ghost use Rattle.map_text.specs.MapText.{IsMapText};
 ghost use Rattle.plan_text.specs.PlanText.{IsPlanText};
 ghost use Rattle.plan_scenes.specs.Plans.{IsPlanOf};
 
+use fleet_base::limits::PAPER;
 use fleet_base::{Grid, Pair, PairId, PairTable, RawPlan, SoundPlan};
 use map_text::read_map;
 use plan_check::check;
 use plan_text::read_plan;
 use std::alloc::Global;
 use std::test::Fail;
+use switch_pairs::pairs;
 
 /// The bytes of a map, and of a plan on it.
 pub type Texts<'t> = (&'t [u8], &'t [u8]);
@@ -38,10 +41,20 @@ pub fn sound_plan(alloc: Global, map: &[u8], text: &[u8]) -> Result<SoundPlan, F
     }
 }
 
+/// The plan of these texts, which must be sound, with its pairs.
+pub fn planned(alloc: Global, texts: Texts<'_>) -> Result<(SoundPlan, PairTable), Fail>
+    ensures plan { IfOk result (λ made. IsPlanOf texts.entry.0.now texts.entry.1.now made.0) }
+    ensures pairs { IfOk result (λ made. made.1 ≡ pairs_of made.0) }
+{
+    let plan = sound_plan(alloc, texts.0, texts.1)?;
+    let table = pairs(alloc, &plan)?;
+    Ok((plan, table))
+}
+
 fn grid_of(alloc: Global, map: &[u8]) -> Result<Grid, Fail>
     ensures { IfOk result (IsMapText map.now) }
 {
-    if map.len() > 1 << 25 {
+    if map.len() as u64 > PAPER {
         return Err(Fail::from("a short map"));
     }
     match read_map(alloc, map) {
@@ -53,7 +66,7 @@ fn grid_of(alloc: Global, map: &[u8]) -> Result<Grid, Fail>
 fn raw_of(alloc: Global, text: &[u8]) -> Result<RawPlan, Fail>
     ensures { IfOk result (IsPlanText text.now) }
 {
-    if text.len() > 1 << 25 {
+    if text.len() as u64 > PAPER {
         return Err(Fail::from("a short plan"));
     }
     match read_plan(alloc, text) {

@@ -7,14 +7,13 @@ ghost use Rattle.release_rule.specs.Releasing.{HasSidesOf};
 ghost use Rattle.plan_scenes.specs.Plans.{IsGraphOf};
 
 use crate::events::Event;
-use crate::plans::{Texts, sound_plan};
+use crate::plans::{Texts, planned};
 use crate::steps::{Outcome, step};
 use fleet_base::{Fleet, PairId};
 use fleet_core::first_state_ahead;
 use plan_graph::{Oriented, PlanGraph};
 use std::alloc::Global;
 use std::test::Fail;
-use switch_pairs::pairs;
 
 /// The graph of a plan, and its first state.
 pub fn first(alloc: Global, texts: Texts<'_>) -> Result<(PlanGraph, Fleet), Fail>
@@ -32,8 +31,7 @@ pub fn first_ahead(alloc: Global, texts: Texts<'_>, window: u32) -> Result<(Plan
     ensures first { IfOk result (λ made. IsFirstStateAhead made.0 window made.1) }
     ensures rules { IfOk result (λ made. IsFleetState made.0 made.1) }
 {
-    let plan = sound_plan(alloc, texts.0, texts.1)?;
-    let table = pairs(alloc, &plan)?;
+    let (plan, table) = planned(alloc, texts)?;
     let graph = PlanGraph::new(alloc, &plan, &table)?;
     let fleet = first_state_ahead(alloc, &plan, &table, window)?;
     Ok((graph, fleet))

@@ -2,11 +2,11 @@
 ghost use Rattle.std.specs.Prelude.{◌≡◌, ◌<◌, All, map, length, IfOk, IfErr};
 ghost use Rattle.std.specs.List.Sorted.{IsStrictlyIncreasing};
 ghost use Rattle.fleet_base.specs.Rules.{IsFleetState};
-ghost use Rattle.fleet_core.specs.Step.{MaySwitch};
+ghost use Rattle.fleet_core.specs.Step.{OnlyDelaysSwitch};
 ghost use Rattle.plan_scenes.specs.Steps.{ComesTo, named};
 
 use crate::events::Event;
-use fleet_base::{Fleet, Items, PairId, PairList, Report, Visit};
+use fleet_base::{Fleet, Items, PairId, PairList, Report, Visit, limits};
 use fleet_core::{ChoiceWhy, Judged, PrepareError, apply, judge, prepare};
 use plan_graph::PlanGraph;
 use std::alloc::Global;
@@ -35,7 +35,7 @@ pub fn step(
     ensures rules { IsFleetState graph.now fleet.new }
 {
     let (report, pair) = event;
-    if judge(graph, fleet, report) != Judged::Accept || fleet.count() >= 1 << 62 {
+    if judge(graph, fleet, report) != Judged::Accept || fleet.count() >= limits::REPORTS {
         return Err(Fail::from("an accepted report"));
     }
     let switched = switched_by(alloc, graph, report, *pair)?;
@@ -60,7 +60,7 @@ fn switched_by(
     ensures named { IfOk result (λ switched. switched ≡ named pair) }
     ensures ascending { IfOk result (λ switched. IsStrictlyIncreasing (map (λ q. q.0) switched)) }
     ensures there { IfOk result (λ switched. All (λ q. q.0 < length graph.now.pairs) switched) }
-    ensures may { IfOk result (MaySwitch report.now) }
+    ensures may { IfOk result (OnlyDelaysSwitch report.now) }
 {
     match (report, pair) {
         (_, None) => Ok(Items::new(alloc)),

@@ -1,6 +1,6 @@
 // Rankings of one view, again and again in one room.
 ghost use Rattle.std.specs.Prelude.{◌≡◌, IfSome};
-ghost use Rattle.plan_check.specs.Faults.{HasRobots};
+ghost use Rattle.fleet_base.specs.Plan.{HasRobots};
 ghost use Rattle.plan_graph.specs.Views.{IsRankingFor};
 
 use crate::convoy;

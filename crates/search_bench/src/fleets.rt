@@ -1,4 +1,4 @@
-// Fleets that are made, with a delay.
+// Plans that are made, and their first states with a delay.
 ghost use Rattle.std.specs.Prelude.{◌≡◌, ◌<◌, ◌^◌, IfSome};
 ghost use Rattle.fleet_base.specs.Pairs.{pairs_of};
 ghost use Rattle.fleet_base.specs.Order.{graph_of};
@@ -14,16 +14,25 @@ use plan_graph::PlanGraph;
 use std::alloc::Global;
 use switch_pairs::pairs;
 
-/// The graph of the fleet of a seed, and its first state with a delay of a robot's first move; none if there is no such robot
-/// or delay, or memory is wanting.
-pub fn delayed(alloc: Global, seed: u64, robot: u64, extra: u64) -> Option<(PlanGraph, Fleet)>
+/// The plan of the fleet of a seed; none if memory is wanting.
+pub fn generated(alloc: Global, seed: u64) -> Option<SoundPlan> {
+    let (grid, raw) = gen_fleet(alloc, seed).ok()?;
+    check(alloc, &grid, &raw).ok()
+}
+
+/// The graph of a plan, and its first state with a delay of a robot's first move; none if there is no such robot or delay, or
+/// memory is wanting.
+pub fn delayed(
+    alloc: Global,
+    plan: &SoundPlan,
+    robot: u64,
+    extra: u64,
+) -> Option<(PlanGraph, Fleet)>
     ensures { IfSome result (λ made. IsFleetState made.0 made.1) }
 {
-    let (grid, raw) = gen_fleet(alloc, seed).ok()?;
-    let plan = check(alloc, &grid, &raw).ok()?;
-    let table = pairs(alloc, &plan).ok()?;
-    let graph = PlanGraph::new(alloc, &plan, &table).ok()?;
-    let first = first_fleet(alloc, &plan, &graph, &table)?;
+    let table = pairs(alloc, plan).ok()?;
+    let graph = PlanGraph::new(alloc, plan, &table).ok()?;
+    let first = first_fleet(alloc, plan, &graph, &table)?;
     let late = Report::Delay {
         robot,
         index: 1,

@@ -1,15 +1,17 @@
 //! Searches for a cheaper order after a delay many times, and makes the schedule of the delayed state many times, to be timed:
 //! `search_bench SEED ROBOT EXTRA BUDGET SEARCHES SCHEDULES`, where robot ROBOT of the fleet of SEED takes EXTRA ticks longer
-//! for its first move.
+//! for its first move. With two words more, ROBOTS and STEPS, the fleet is not that of SEED, but two streams of ROBOTS robots
+//! that cross, each of which makes STEPS moves.
 #![tactic(auto)]
 
 mod fleets;
 mod searches;
+mod streams;
 
-use crate::searches::{Asked, Outcome};
-use fleet_base::read_number;
+use crate::searches::{Asked, Made, Outcome};
+use bench_base::{number, words};
+use std::io;
 use std::process::ExitCode;
-use std::{env, io};
 
 /// Writes what the last search found and ends with 0; ends with 2 where there is no such delay or memory is wanting, and with 3
 /// where words are not read or the line is not written.
@@ -20,20 +22,9 @@ fn main(rt: HostRuntime) -> ExitCode {
     }
 }
 
-/// The words of the command line, without the program's own name.
-fn words(rt: HostRuntime) -> io::Result<Vec<String>> {
-    let mut words = Vec::new(rt.alloc());
-    for word in env::args(&rt)?.skip(1) {
-        words
-            .push(word)
-            .map_err(|_| io::Error::from(io::ErrorKind::OutOfMemory))?;
-    }
-    Ok(words)
-}
-
 fn run(rt: HostRuntime, words: &[String]) -> ExitCode {
     let asked = Asked {
-        seed: number(words, 0),
+        made: made(words),
         robot: number(words, 1),
         extra: number(words, 2),
         budget: number(words, 3),
@@ -46,6 +37,18 @@ fn run(rt: HostRuntime, words: &[String]) -> ExitCode {
             Err(_) => ExitCode::from(3),
         },
         None => ExitCode::from(2),
+    }
+}
+
+/// The plan that is asked for.
+fn made(words: &[String]) -> Made {
+    let robots = number(words, 6);
+    if robots == 0 {
+        return Made::Seed(number(words, 0));
+    }
+    Made::Streams {
+        robots,
+        steps: number(words, 7),
     }
 }
 
@@ -62,12 +65,4 @@ fn told(rt: HostRuntime, outcome: Outcome) -> io::Result<()> {
     println!(rt;
         "{pairs} pairs, {visits} visits, {asked} decisions asked, {branches} branches, {kept} before, {cost} after"
     )
-}
-
-/// The number that a word spells; 0 where it spells none.
-fn number(words: &[String], at: usize) -> u64 {
-    match words.get(at) {
-        Some(word) => read_number(word.as_bytes()).unwrap_or(0),
-        None => 0,
-    }
 }

@@ -4,23 +4,31 @@ ghost use Rattle.fleet_base.specs.Rules.{IsFleetState};
 ghost use Rattle.longest_path.specs.Ticks.{IsKeptFor};
 ghost use Rattle.search_nodes.specs.Rooms.{IsRoomFor};
 
-use crate::fleets::delayed;
+use crate::fleets::{delayed, generated};
+use crate::streams::crossing;
 use bound_search::{Found, Outcome as Known, Room, search};
 use cert_tree::{Cert, Node};
-use fleet_base::{Fleet, PairId};
+use fleet_base::{Fleet, PairId, SoundPlan};
 use longest_path::{Ticks, earliest};
 use plan_graph::{Oriented, PlanGraph};
 use std::alloc::Global;
 
-/// What is asked: the fleet of a seed, a delay of a robot's first move, a budget, and how often.
+/// What is asked: a plan, a delay of a robot's first move, a budget, and how often.
 #[derive(Clone, Copy)]
 pub struct Asked {
-    pub seed: u64,
+    pub made: Made,
     pub robot: u64,
     pub extra: u64,
     pub budget: u64,
     pub searches: u64,
     pub schedules: u64,
+}
+
+/// Which plan is made: that of the fleet of a seed, or of two streams of robots that cross.
+#[derive(Clone, Copy)]
+pub enum Made {
+    Seed(u64),
+    Streams { robots: u64, steps: u64 },
 }
 
 /// What the last search found: how large the plan is, how often a decision was asked for, how many branches the certificate has,
@@ -38,7 +46,8 @@ pub struct Outcome {
 /// Makes the schedule of the delayed state so many times and searches so many times; none if there is no such delay, or memory
 /// is wanting.
 pub fn searched(alloc: Global, asked: Asked) -> Option<Outcome> {
-    let (graph, fleet) = delayed(alloc, asked.seed, asked.robot, asked.extra)?;
+    let plan = plan_of(alloc, asked.made)?;
+    let (graph, fleet) = delayed(alloc, &plan, asked.robot, asked.extra)?;
     let kept = scheduled(alloc, &graph, &fleet, asked.schedules)?;
     let mut room = Room::new(alloc, &graph).ok()?;
     let mut outcome = Outcome {
@@ -51,6 +60,13 @@ pub fn searched(alloc: Global, asked: Asked) -> Option<Outcome> {
     };
     search_often(alloc, &graph, &fleet, asked, &mut room, &mut outcome)?;
     Some(outcome)
+}
+
+fn plan_of(alloc: Global, made: Made) -> Option<SoundPlan> {
+    match made {
+        Made::Seed(seed) => generated(alloc, seed),
+        Made::Streams { robots, steps } => crossing(alloc, robots, steps),
+    }
 }
 
 fn search_often(

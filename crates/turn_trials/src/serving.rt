@@ -1,20 +1,16 @@
 // Sessions that are set otherwise than the program's: by a limit for the journal's sides, or for the input.
 ghost use Rattle.std.specs.Prelude.{◌≡◌, IfOk};
 ghost use Rattle.fleet_base.specs.Pairs.{pairs_of};
-ghost use Rattle.plan_check.specs.Faults.{HasRobots};
 
 use crate::pieces::{at_once, byte_by_byte};
-use fleet_base::{Grid, PairTable, RawPlan, SoundPlan, Why};
+use fleet_base::{PairTable, SoundPlan, Why};
 use fleet_recovery::recover;
 use fleet_serve::{Kit, Papers, ServeFault, Settings, Turn, serve, step};
-use map_text::read_map;
-use plan_check::check;
 use plan_graph::PlanGraph;
-use plan_text::read_plan;
+use plan_scenes::planned;
 use station_api::{MemStation, Source, Station};
 use std::alloc::Global;
 use std::test::Fail;
-use switch_pairs::pairs;
 use trial_base::{CROSSING, CROSSING_MAP, CROSSING_PLAN, sent_behind, session, side_a, station_of};
 
 /// More bytes than any side and any input here has.
@@ -38,31 +34,7 @@ pub fn settings(side_limit: u64, input_limit: u64) -> Settings {
 pub fn crossing(alloc: Global) -> Result<(SoundPlan, PairTable), Fail>
     ensures { IfOk result (λ made. made.1 ≡ pairs_of made.0) }
 {
-    let grid = grid_of(alloc)?;
-    let raw = raw_of(alloc)?;
-    let Ok(plan) = check(alloc, &grid, &raw) else {
-        return Err(Fail::from("a sound plan"));
-    };
-    let Ok(table) = pairs(alloc, &plan) else {
-        return Err(Fail::from("pairs"));
-    };
-    Ok((plan, table))
-}
-
-fn grid_of(alloc: Global) -> Result<Grid, Fail> {
-    match read_map(alloc, CROSSING_MAP) {
-        Ok(grid) => Ok(grid),
-        Err(_) => Err(Fail::from("a map")),
-    }
-}
-
-fn raw_of(alloc: Global) -> Result<RawPlan, Fail>
-    ensures { IfOk result HasRobots }
-{
-    match read_plan(alloc, CROSSING_PLAN) {
-        Ok(raw) => Ok(raw),
-        Err(_) => Err(Fail::from("a plan")),
-    }
+    planned(alloc, plan_scenes::CROSSING)
 }
 
 /// How the session of a journal of the crossing ends that is set so.

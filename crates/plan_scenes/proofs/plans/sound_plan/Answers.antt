@@ -1,4 +1,4 @@
-use Rattle.plan_scenes.proofs.Texts.{read_plan_has_robots}
+use Rattle.plan_text.proofs.Robots.{read_plan_has_robots}
 use Rattle.plan_scenes.proofs.plans.sound_plan.Goals as goal
 
 pub check-requires-clause-paths : goal.check-requires-clause-paths

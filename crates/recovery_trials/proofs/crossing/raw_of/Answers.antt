@@ -1,5 +1,0 @@
-use Rattle.fleet_cli.proofs.Reasons.{read_plan_has_robots}
-use Rattle.recovery_trials.proofs.crossing.raw_of.Goals as goal
-
-pub returns-in-Ok : goal.returns-in-Ok
-returns-in-Ok c = read_plan_has_robots _ _ c.in-Ok.ensures.read
