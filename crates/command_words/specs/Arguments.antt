@@ -8,6 +8,7 @@ use Rattle.clap.specs.declared.parser.matches.Found.{Found}
 use Rattle.command_words.specs.declared.command.Command.{Command}
 use Rattle.command_words.specs.declared.command.Command.TheVariants.{Check, Run, Gen, Plan}
 use Rattle.fleet_base.specs.Bytes.{IsNumber}
+use Rattle.fleet_base.specs.Limits.{budget_limit, robot_limit, tick_limit}
 use Rattle.command_words.specs.Grammar.{IsNumberOr}
 
 -- a command with no arguments yet, and without the flag for help
@@ -49,7 +50,7 @@ IsFoundCheck found _ = ⊥
 -- what was found is this `run`
 abbrev pub IsFoundRun : Found → Command → Type 0
 IsFoundRun found (Run m p j budget quiet) = (first_value found (codes "map") ≡ Some m.now) × (first_value found (codes "plan") ≡ Some p.now) × (first_value found (codes "journal") ≡ Some j.now)
-    × IsNumberOr 128 0 4096 (first_value found (codes "budget")) budget × IsFoundFlag found (codes "quiet") quiet
+    × IsNumberOr 128 0 budget_limit (first_value found (codes "budget")) budget × IsFoundFlag found (codes "quiet") quiet
 IsFoundRun found _ = ⊥
 
 -- what was found is this `gen`
@@ -60,5 +61,5 @@ IsFoundGen found _ = ⊥
 -- what was found is this `plan`
 abbrev pub IsFoundPlan : Found → Command → Type 0
 IsFoundPlan found (Plan m s robots horizon) = (first_value found (codes "map") ≡ Some m.now) × (first_value found (codes "scen") ≡ Some s.now)
-    × IsNumberOr 32 1 256 (first_value found (codes "robots")) robots × IsNumberOr 1024 1 4096 (first_value found (codes "horizon")) horizon
+    × IsNumberOr 32 1 robot_limit (first_value found (codes "robots")) robots × IsNumberOr 1024 1 tick_limit (first_value found (codes "horizon")) horizon
 IsFoundPlan found _ = ⊥

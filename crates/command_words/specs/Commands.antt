@@ -3,6 +3,7 @@ use Rattle.std.specs.Prelude.{ℕ, ◌≡◌, Bool, List, [], ◌∷◌, codes}
 use Rattle.command_words.specs.declared.command.Command.{Command}
 use Rattle.command_words.specs.declared.command.Command.TheVariants.{Check, Run, Gen, Plan}
 use Rattle.fleet_base.specs.Bytes.{IsNumber}
+use Rattle.fleet_base.specs.Limits.{budget_limit, robot_limit, tick_limit}
 use Rattle.command_words.specs.Grammar.{Grammar, Part, IsWritten, IsNumberOr, value_in, is_given}
 
 -- `check` has no options
@@ -30,7 +31,7 @@ pub record IsCheck (words : List (List ℕ)) (map_name plan_name : List ℕ) : T
 pub record IsRun (words : List (List ℕ)) (map_name plan_name journal : List ℕ) (budget : ℕ) (quiet : Bool) : Type 0 where
   pub parts : List Part
   pub written : IsWritten (codes "run") run_grammar words parts (map_name ∷ plan_name ∷ journal ∷ [])
-  pub budget_is : IsNumberOr 128 0 4096 (value_in (codes "budget") parts) budget
+  pub budget_is : IsNumberOr 128 0 budget_limit (value_in (codes "budget") parts) budget
   pub quiet_is : quiet ≡ is_given (codes "quiet") parts
 
 -- the words are `gen SEED [--plan]`, and the seed is a number below 2^64
@@ -45,8 +46,8 @@ pub record IsGen (words : List (List ℕ)) (seed : ℕ) (plan : Bool) : Type 0 w
 pub record IsPlan (words : List (List ℕ)) (map_name scen_name : List ℕ) (robots horizon : ℕ) : Type 0 where
   pub parts : List Part
   pub written : IsWritten (codes "plan") plan_grammar words parts (map_name ∷ scen_name ∷ [])
-  pub robots_is : IsNumberOr 32 1 256 (value_in (codes "robots") parts) robots
-  pub horizon_is : IsNumberOr 1024 1 4096 (value_in (codes "horizon") parts) horizon
+  pub robots_is : IsNumberOr 32 1 robot_limit (value_in (codes "robots") parts) robots
+  pub horizon_is : IsNumberOr 1024 1 tick_limit (value_in (codes "horizon") parts) horizon
 
 -- the words are those of this command
 abbrev pub IsCommand : List (List ℕ) → Command → Type 0

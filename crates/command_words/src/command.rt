@@ -1,5 +1,6 @@
 // A command, and why words are none.
 use std::alloc::AllocError;
+use thiserror::Error;
 
 /// What the program is to do.
 #[derive(Clone, Copy, Debug)]
@@ -37,11 +38,13 @@ pub enum Command<'w> {
 }
 
 /// Why words are not read.
-#[derive(Clone, Copy, Debug, PartialEq, Eq)]
+#[derive(Clone, Copy, Debug, PartialEq, Eq, Error)]
 pub enum WordsError {
     /// The words are those of no command.
+    #[error("the words are those of no command")]
     Usage,
     /// There was no memory.
+    #[error("out of memory")]
     Memory,
 }
 

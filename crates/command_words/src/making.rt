@@ -1,6 +1,7 @@
 // The words of the commands that make a fleet or a plan.
 ghost use Rattle.std.specs.Prelude.{◌≡◌, ◌≢◌, ℕ, List, map, string_bytes, Some, IfOk, IfErr, IfSome, IfNone, codes};
 ghost use Rattle.fleet_base.specs.Bytes.{IsNumber};
+ghost use Rattle.fleet_base.specs.Limits.{robot_limit, tick_limit};
 ghost use Rattle.command_words.specs.declared.command.WordsError.TheVariants.{Usage};
 ghost use Rattle.clap.specs.Words.{app_of, first_value, found_of};
 ghost use Rattle.command_words.specs.Arguments.{BeginsWith, IsFoundGen, IsFoundPlan, gen_app, plan_app};
@@ -12,7 +13,7 @@ use crate::keys::{Keys, are_known};
 use crate::numbers::number_or;
 use crate::parsing::parse;
 use clap::{Arg, ArgAction, ArgMatches};
-use fleet_base::read_number;
+use fleet_base::{limits, read_number};
 use std::alloc::{AllocError, Global};
 
 /// `gen` has `--plan`.
@@ -73,12 +74,17 @@ pub fn plan_words(alloc: Global, words: &[String]) -> Result<Command<'_>, WordsE
 fn plan_of<'w>(matches: &ArgMatches<'w>) -> Option<Command<'w>>
     ensures some { IfSome result (IsFoundPlan (found_of matches.now)) }
     ensures none { IfNone result ((m s : List ℕ) (n h : ℕ) → first_value (found_of matches.now) (codes "map") ≡ Some m → first_value (found_of matches.now) (codes "scen") ≡ Some s
-        → IsNumberOr 32 1 256 (first_value (found_of matches.now) (codes "robots")) n → IsNumberOr 1024 1 4096 (first_value (found_of matches.now) (codes "horizon")) h → ⊥) }
+        → IsNumberOr 32 1 robot_limit (first_value (found_of matches.now) (codes "robots")) n → IsNumberOr 1024 1 tick_limit (first_value (found_of matches.now) (codes "horizon")) h → ⊥) }
 {
     let map = matches.get_str("map")?;
     let scen = matches.get_str("scen")?;
-    let robots = number_or(matches.get_str("robots"), 32, 1, 256)?;
-    let horizon = number_or(matches.get_str("horizon"), 1024, 1, 4096)?;
+    let robots = number_or(matches.get_str("robots"), 32, 1, limits::ROBOTS.into())?;
+    let horizon = number_or(
+        matches.get_str("horizon"),
+        1024,
+        1,
+        limits::LAST_TICK.into(),
+    )?;
     Some(Command::Plan {
         map,
         scen,

@@ -5,6 +5,7 @@ ghost use Rattle.clap.specs.Words.{app_of, first_value, found_of};
 ghost use Rattle.command_words.specs.Arguments.{BeginsWith, IsFoundCheck, IsFoundRun, check_app, run_app};
 ghost use Rattle.command_words.specs.Commands.{IsCommand, IsUsage};
 ghost use Rattle.command_words.specs.Grammar.{IsNumberOr};
+ghost use Rattle.fleet_base.specs.Limits.{budget_limit};
 
 use crate::command::{Command, WordsError};
 use crate::keys::{Keys, are_known};
@@ -12,6 +13,7 @@ use crate::making::{gen_words, plan_words};
 use crate::numbers::number_or;
 use crate::parsing::parse;
 use clap::{Arg, ArgAction, ArgMatches};
+use fleet_base::limits;
 use std::alloc::{AllocError, Global};
 
 /// `check` has no options.
@@ -95,12 +97,12 @@ fn run_words(alloc: Global, words: &[String]) -> Result<Command<'_>, WordsError>
 fn run_of<'w>(matches: &ArgMatches<'w>) -> Option<Command<'w>>
     ensures some { IfSome result (IsFoundRun (found_of matches.now)) }
     ensures none { IfNone result ((m p j : List ℕ) (n : ℕ) → first_value (found_of matches.now) (codes "map") ≡ Some m → first_value (found_of matches.now) (codes "plan") ≡ Some p → first_value (found_of matches.now) (codes "journal") ≡ Some j
-        → IsNumberOr 128 0 4096 (first_value (found_of matches.now) (codes "budget")) n → ⊥) }
+        → IsNumberOr 128 0 budget_limit (first_value (found_of matches.now) (codes "budget")) n → ⊥) }
 {
     let map = matches.get_str("map")?;
     let plan = matches.get_str("plan")?;
     let journal = matches.get_str("journal")?;
-    let budget = number_or(matches.get_str("budget"), 128, 0, 4096)?;
+    let budget = number_or(matches.get_str("budget"), 128, 0, limits::BUDGET.into())?;
     let quiet = matches.get_flag("quiet");
     Some(Command::Run {
         map,

@@ -13,6 +13,7 @@ use Rattle.fleet_base.specs.Order.{Graph}
 use Rattle.fleet_base.specs.Groups.{AreMates, AreGrouped, IsGroupOf}
 use Rattle.fleet_base.proofs.Members.{head_in, in_one, in_none}
 use Rattle.fleet_base.proofs.Mates.{mates_turned}
+use Rattle.fleet_base.proofs.PairNumbers.{number}
 use Rattle.plan_graph.specs.Limits.{IsPlanGraph}
 use Rattle.edge_groups.specs.declared.cursor.Cursor.{Cursor}
 use Rattle.edge_groups.specs.declared.listing.Finder.{Finder}
@@ -23,9 +24,6 @@ use Rattle.edge_groups.specs.Names.{IsBeside, AreJoined, AreMutual, IsNameOf}
 use Rattle.edge_groups.specs.Ranks.{rank_in, IsBehind, IsReached}
 use Rattle.edge_groups.proofs.Ascending.{Ascends, ascends_append, ascends_at}
 use Rattle.edge_groups.proofs.RankLaws.{AreApart, ranks_ascend, ranked_below, mates_apart, apart_mates}
-
-abbrev number : ℕ → PairId
-number n = record { 0 = n }
 
 abbrev number_of : PairId → ℕ
 number_of q = q.0

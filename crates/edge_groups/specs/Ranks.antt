@@ -4,10 +4,11 @@ use Rattle.std.specs.Option.{option_map_or}
 use Rattle.fleet_base.specs.declared.order.Pair.{Pair}
 use Rattle.fleet_base.specs.declared.order.PairId.{PairId}
 use Rattle.fleet_base.specs.Order.{Graph}
+use Rattle.fleet_base.specs.Limits.{robot_limit, visit_limit}
 
 -- pairs stand by the lower robot, the higher one, the lower robot's visit and the higher one's, and so do these numbers
 abbrev pub rank_of : Pair → ℕ
-rank_of p = ((p.lower.robot * 256 + p.higher.robot) * 131072 + p.lower.index) * 131072 + p.higher.index
+rank_of p = ((p.lower.robot * robot_limit + p.higher.robot) * (2 * visit_limit) + p.lower.index) * (2 * visit_limit) + p.higher.index
 
 -- the rank of a pair, by its number
 abbrev pub rank_in : Graph → ℕ → ℕ

@@ -3,8 +3,14 @@ ghost use Rattle.std.specs.Prelude.{ℕ, ◌≡◌, ◌+◌, ◌^◌, ◌<◌, �
 ghost use Rattle.edge_groups.specs.Ranks.{rank_in, rank_of, IsBehind, IsReached};
 ghost use Rattle.fleet_base.specs.Limits.{robot_limit, visit_limit};
 
-use fleet_base::{Pair, PairId};
+use fleet_base::{Pair, PairId, limits};
 use plan_graph::PlanGraph;
+
+/// The numbers of robots are below this.
+const ROBOTS: u64 = limits::ROBOTS as u64;
+
+/// The numbers of a robot's visits, also when raised by one, are below this.
+const ROW: u64 = 2 * limits::VISITS as u64;
 
 /// A way through the pairs, ascending, for one pair after another. It looks for the pair whose rank, raised by `raise`, is
 /// `lead` more than the rank of each.
@@ -80,7 +86,7 @@ fn rank(pair: Pair) -> u64
     ensures rank { result ≡ rank_of pair }
     ensures small { result < 2 ^ 50 }
 {
-    let robots = u64::from(pair.lower.robot) * 256 + u64::from(pair.higher.robot);
-    let lower = robots * 131_072 + u64::from(pair.lower.index);
-    lower * 131_072 + u64::from(pair.higher.index)
+    let robots = u64::from(pair.lower.robot) * ROBOTS + u64::from(pair.higher.robot);
+    let lower = robots * ROW + u64::from(pair.lower.index);
+    lower * ROW + u64::from(pair.higher.index)
 }

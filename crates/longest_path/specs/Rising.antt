@@ -7,6 +7,7 @@ use Rattle.fleet_base.specs.Order.{Graph, IsVisit, HasEdge, Before}
 use Rattle.fleet_base.specs.State.{FleetState, arrived_count, duration_of}
 use Rattle.fleet_base.specs.Schedule.{IsSchedule, Obeys, ObeysEdge, IsLeastSchedule, IsBelowAll}
 use Rattle.fleet_base.specs.VisitRows.{tick_in, AreRowsFor}
+use Rattle.fleet_base.specs.Limits.{moment_limit}
 use Rattle.longest_path.specs.Cells.{is_marked, mark_count}
 use Rattle.longest_path.specs.Extending.{Reaches, HasOneMore}
 use Rattle.longest_path.specs.Working.{IsWorkFor, IsKeptBy}
@@ -35,7 +36,7 @@ pub record IsUnderWay (g : Graph) (x : FleetState) (more : ℕ → Option Side) 
   pub one : HasOneMore order more pair
   pub edge : HasEdge g more pair tail head
   pub least : IsLeastSchedule g x order base
-  pub small : (v : Visit) → base v < 2 * 10 ^ 12
+  pub small : (v : Visit) → base v < 2 * moment_limit
   pub raising : IsRaising g x order more head base s Waits
   pub shifted : (v : Visit) → IsVisit g v → s v ≤ base v + (base tail + duration_of x head - base head)
   pub start : base tail ≡ given

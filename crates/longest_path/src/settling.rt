@@ -5,6 +5,7 @@ ghost use Rattle.fleet_base.specs.State.{arrived_count, duration_of};
 ghost use Rattle.fleet_base.specs.Rules.{IsFleetState};
 ghost use Rattle.fleet_base.specs.Schedule.{IsLeastSchedule};
 ghost use Rattle.fleet_base.specs.VisitRows.{tick_in, AreRowsFor};
+ghost use Rattle.fleet_base.specs.Limits.{moment_limit};
 ghost use Rattle.plan_graph.specs.Views.{order_in};
 ghost use Rattle.longest_path.specs.Closed.{AgreesOnClosed};
 ghost use Rattle.longest_path.specs.Ticks.{schedule_in, IsKeptFor};
@@ -116,7 +117,7 @@ fn wake_along(
     requires rows { AreRowsFor view.now.graph rows.now }
     requires alike { AreAlike rows.now waiting.old }
     requires there { IsVisit view.now.graph v }
-    requires low { tick < 2 * 10 ^ 12 }
+    requires low { tick < 2 * moment_limit }
     ensures waking { IsWaking view.now.graph (order_in view.now) v rows.now waiting.old waiting.new }
     ensures woken { IsVisit view.now.graph (next_visit v) → tick_in rows.now (next_visit v) ≡ tick + duration_of fleet.now (next_visit v) → Marked waiting.new (next_visit v) }
 {
@@ -143,7 +144,7 @@ fn wake_across(
     requires state { IsFleetState view.now.graph fleet.now }
     requires rows { AreRowsFor view.now.graph rows.now }
     requires alike { AreAlike rows.now waiting.old }
-    requires low { tick < 2 * 10 ^ 12 }
+    requires low { tick < 2 * moment_limit }
     ensures waking { IsWaking view.now.graph (order_in view.now) v rows.now waiting.old waiting.new }
     ensures woken { (q : ℕ) (w : Visit) → HasEdge view.now.graph (order_in view.now) q v w → tick_in rows.now w ≡ tick + duration_of fleet.now w → Marked waiting.new w }
 {

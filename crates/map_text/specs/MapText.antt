@@ -3,7 +3,7 @@ use Rattle.std.specs.Prelude.{ℕ, ◌≡◌, ◌+◌, ◌<◌, ◌≤◌, List,
 use Rattle.std.specs.List.{list_all}
 use Rattle.fleet_base.specs.Lists.{range}
 use Rattle.fleet_base.specs.Grid.{OccupancyGrid, is_free}
-use Rattle.fleet_base.specs.Bytes.{file_lines, numeral}
+use Rattle.fleet_base.specs.Bytes.{file_lines, numeral, text_of_lines}
 use Rattle.fleet_base.specs.Limits.{span_limit}
 
 -- the characters `.`, `G` and `S` stand for free cells
@@ -73,4 +73,4 @@ map_lines g = codes "type octile" ∷ height_line g.height ∷ width_line g.widt
 
 -- the canonical text of a grid: each line with an LF
 abbrev pub map_text_of : OccupancyGrid → List ℕ
-map_text_of g = flat_map (λ line. line ++ 10 ∷ []) (map_lines g)
+map_text_of g = text_of_lines (map_lines g)

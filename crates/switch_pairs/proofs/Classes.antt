@@ -4,16 +4,13 @@ use Rattle.std.specs.Prelude.{Contains, filter, flat_map, ◌==◌}
 use Rattle.std.specs.List.{range_with_len}
 use Rattle.std.specs.List.Sorted.{IsNonDecreasingBy}
 use Rattle.std.proofs.lemmas.Bool.{cases_eq, eq-eqb, ne_eqb}
-use Rattle.std.proofs.lemmas.List.FromFn.{get_or-range_with_len, length-range_with_len}
 use Rattle.fleet_base.specs.Lists.{range}
-use Rattle.fleet_base.proofs.Members.{head_in, tail_in, in_cons}
+use Rattle.fleet_base.proofs.Members.{head_in, tail_in, in_cons, from_range}
 use Rattle.fleet_base.proofs.Sorting.{InOrder}
 use Rattle.switch_pairs.proofs.Lists.{filter_none, flat_map_alike, flat_map_none}
 
 pub from_run : (a n r : ℕ) → Contains (range_with_len a n) r → a ≤ r
-from_run a n r k =
-    let lt : k.0 < n = omega (arith, length-range_with_len a n, k.1) in
-    omega (arith, get_or-range_with_len a n k.0 r lt, k.2)
+from_run a n r k = let e : n ≡ a + n - a = omega arith in (from_range a (a + n) r (subst (λ (m : ℕ). Contains (range_with_len a m) r) e k)).0
 
 -- a list that rises from place to place is in order
 pub in_order : {X : Type 0} (n : X → ℕ) (xs : List X) → IsNonDecreasingBy n xs → InOrder n xs

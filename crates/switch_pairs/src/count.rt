@@ -1,5 +1,6 @@
-ghost use Rattle.std.specs.Prelude.{◌≡◌, ◌<◌, ◌≤◌, length};
+ghost use Rattle.std.specs.Prelude.{◌≡◌, ◌<◌, ◌≤◌, length, ◌*◌};
 ghost use Rattle.fleet_base.specs.Pairs.{pairs_of};
+ghost use Rattle.fleet_base.specs.Limits.{visit_limit};
 ghost use Rattle.switch_pairs.specs.Stops.{AreStops};
 ghost use Rattle.switch_pairs.specs.Found.{pairs_by_visit};
 
@@ -23,7 +24,7 @@ fn count_of_robot(plan: &SoundPlan, stops: &[Stop], robot: u32) -> u64
     requires robot { robot < length plan.now }
     requires stops { AreStops plan.now stops.now }
     ensures count { result ≡ length (pairs_by_visit plan.now robot) }
-    ensures few { result ≤ 4294967296 }
+    ensures few { result ≤ visit_limit * visit_limit }
 {
     let mut count = 0;
     for index in 0..visits(plan, robot) {
