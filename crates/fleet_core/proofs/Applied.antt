@@ -15,6 +15,7 @@ use Rattle.fleet_base.specs.State.{FleetState, IsFleetOf}
 use Rattle.fleet_base.specs.Release.{Releases}
 use Rattle.fleet_base.specs.Rules.{IsFleetState}
 use Rattle.fleet_base.proofs.Settling.{IsHeard}
+use Rattle.fleet_base.specs.Limits.{report_limit}
 use Rattle.fleet_core.specs.declared.judging.Judged.TheVariants.{Accept}
 use Rattle.fleet_core.specs.Judgement.{judgement_of}
 use Rattle.fleet_core.specs.Step.{Step, IsChoice, OnlyDelaysSwitch, heard_of, tick_of}
@@ -46,7 +47,7 @@ abbrev pub switched_state : FleetState → Report → List PairId → FleetState
 switched_state x report switched = record (heard_of x report) { sides = turned x.sides switched }
 
 -- it is ready to be settled
-pub switched_heard : (g : Graph) (x : FleetState) (report : Report) (switched : List PairId) → IsFleetState g x → judgement_of x report ≡ Accept → x.count < 2 ^ 62 → OnlyDelaysSwitch report switched → IsChoice g x report switched → IsHeard g (switched_state x report switched)
+pub switched_heard : (g : Graph) (x : FleetState) (report : Report) (switched : List PairId) → IsFleetState g x → judgement_of x report ≡ Accept → x.count < report_limit → OnlyDelaysSwitch report switched → IsChoice g x report switched → IsHeard g (switched_state x report switched)
 switched_heard g x (Arrive i k tick) switched s accepted few none choice =
     subst (λ (qs : List PairId). IsHeard g (switched_state x (Arrive i k tick) qs)) (sym none) (arrival_heard g x i k tick s (accepted_arrival x i k tick accepted) few)
 switched_heard g x (Delay i k extra tick) switched s accepted few may choice = delay_heard g x i k extra tick switched s (accepted_delay x i k extra tick accepted) few choice
@@ -57,7 +58,7 @@ may_switch_none (Arrive i k tick) = refl
 may_switch_none (Delay i k extra tick) = tt
 
 -- and the state with the report applied is that of a fleet with the plan
-pub heard_fleet : (g : Graph) (x : FleetState) (report : Report) → IsFleetState g x → judgement_of x report ≡ Accept → x.count < 2 ^ 62 → IsFleetOf g (heard_of x report)
+pub heard_fleet : (g : Graph) (x : FleetState) (report : Report) → IsFleetState g x → judgement_of x report ≡ Accept → x.count < report_limit → IsFleetOf g (heard_of x report)
 heard_fleet g x report s accepted few =
     subst (λ (sides : List Side). IsFleetOf g (record (heard_of x report) { sides = sides })) (sym (heard_sides x report))
     (switched_heard g x report [] s accepted few (may_switch_none report) (record { are_open = λ k d h. absurd (omega (arith, h)); sound = s.order })).fleet

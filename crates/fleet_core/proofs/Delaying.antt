@@ -20,7 +20,7 @@ use Rattle.fleet_base.specs.State.{FleetState, arrived, released, released_count
 use Rattle.fleet_base.specs.Rules.{IsFleetState}
 use Rattle.fleet_base.proofs.Settling.{IsHeard, settles}
 use Rattle.fleet_base.proofs.Turning.{turned_or_old, length-turned}
-use Rattle.fleet_base.specs.Limits.{delay_limit, moment_limit}
+use Rattle.fleet_base.specs.Limits.{delay_limit, moment_limit, report_limit}
 use Rattle.fleet_base.proofs.OpenPairs.{open_unsettled}
 use Rattle.fleet_core.specs.declared.judging.Judged.TheVariants.{Accept, Known, Refused}
 use Rattle.fleet_core.specs.Judgement.{judgement_of, is_bad_tick}
@@ -58,7 +58,7 @@ second_unreleased : (x : FleetState) (p : Pair) (s : Side) → (released_count x
 second_unreleased x p Lower h = h.1
 second_unreleased x p Higher h = h.0
 
-module _ (g : Graph) (x : FleetState) (i k extra tick : ℕ) (switched : List PairId) (s : IsFleetState g x) (a : IsDelay x i k extra tick) (few : x.count < 2 ^ 62) (choice : IsChoice g x (Delay i k extra tick) switched) where
+module _ (g : Graph) (x : FleetState) (i k extra tick : ℕ) (switched : List PairId) (s : IsFleetState g x) (a : IsDelay x i k extra tick) (few : x.count < report_limit) (choice : IsChoice g x (Delay i k extra tick) switched) where
   abbrev heard : FleetState
   heard = record (heard_of x (Delay i k extra tick)) { sides = turned x.sides switched }
 
@@ -194,7 +194,7 @@ step_keeps_rules g x (Arrive i k tick) switched releases x' s step =
 step_keeps_rules g x (Delay i k extra tick) switched releases x' s step = delay_keeps_rules g x i k extra tick switched releases x' s step
 
 -- the state with the delay applied keeps them before any switch and release: what is released is a matter of arrivals and sides alone
-pub heard_delay_keeps_rules : (g : Graph) (x : FleetState) (i k extra tick : ℕ) → IsFleetState g x → judgement_of x (Delay i k extra tick) ≡ Accept → x.count < 2 ^ 62 → IsFleetState g (heard_of x (Delay i k extra tick))
+pub heard_delay_keeps_rules : (g : Graph) (x : FleetState) (i k extra tick : ℕ) → IsFleetState g x → judgement_of x (Delay i k extra tick) ≡ Accept → x.count < report_limit → IsFleetState g (heard_of x (Delay i k extra tick))
 heard_delay_keeps_rules g x i k extra tick s accepted few = record {
   fleet = h.fleet;
   releases = record { window = h.window; started = h.started; within = h.within; last = λ j l. let m = s.releases.last j l in record { within = m.within; clear = m.clear; greatest = m.greatest } };

@@ -6,6 +6,7 @@ use Rattle.fleet_base.specs.declared.report.Report.{Report}
 use Rattle.fleet_base.specs.Order.{Graph}
 use Rattle.fleet_base.specs.State.{FleetState}
 use Rattle.fleet_base.specs.Rules.{IsFleetState}
+use Rattle.fleet_base.specs.Limits.{report_limit}
 use Rattle.release_rule.specs.Releasing.{IsReadyToRelease, IsNewlyReleased}
 use Rattle.fleet_core.specs.declared.judging.Judged.TheVariants.{Accept}
 use Rattle.fleet_core.specs.Judgement.{judgement_of}
@@ -15,7 +16,7 @@ use Rattle.fleet_core.proofs.Applied.{heard_sides, may_switch_none, switched_sta
 use Rattle.fleet_core.proofs.Prepared.{switched_ready, step_from}
 use Rattle.fleet_core.proofs.Delaying.{step_keeps_rules}
 
-module _ (g : Graph) (x : FleetState) (report : Report) (s : IsFleetState g x) (accepted : judgement_of x report ≡ Accept) (few : x.count < 2 ^ 62) where
+module _ (g : Graph) (x : FleetState) (report : Report) (s : IsFleetState g x) (accepted : judgement_of x report ≡ Accept) (few : x.count < report_limit) where
   proposed : IsProposal g x report []
   proposed = record { accepted = accepted; count = few; ascending = λ k h. absurd (omega (arith, h)); there = λ k d h. absurd (omega (arith, h)); switches = may_switch_none report }
 

@@ -10,6 +10,7 @@ use Rattle.fleet_base.specs.Order.{Graph, IsSoundOrder, order_of, turned}
 use Rattle.fleet_base.specs.State.{FleetState}
 use Rattle.fleet_base.specs.Release.{Releases, new_releases}
 use Rattle.fleet_base.specs.Open.{is_open}
+use Rattle.fleet_base.specs.Limits.{report_limit}
 use Rattle.fleet_core.specs.Judgement.{judgement_of}
 use Rattle.fleet_core.specs.declared.judging.Judged.TheVariants.{Accept}
 
@@ -31,7 +32,7 @@ OnlyDelaysSwitch (Delay i k extra tick) switched = Unit {0}
 -- the report may be accepted, and the pairs may be named for it
 pub record IsProposal (g : Graph) (x : FleetState) (report : Report) (switched : List PairId) : Type 0 where
   pub accepted : judgement_of x report ≡ Accept
-  pub count : x.count < 2 ^ 62
+  pub count : x.count < report_limit
   pub ascending : IsStrictlyIncreasing (map (λ q. q.0) switched)
   pub there : All (λ q. q.0 < length g.pairs) switched
   pub switches : OnlyDelaysSwitch report switched

@@ -1,10 +1,9 @@
 -- From one state entries lead to one state.
-use Rattle.std.proofs.Common.{ℕ, ◌≡◌, ◌-◌, ◌<◌, ◌≤◌, List, [], ◌∷◌, ◌++◌, replicate, refl, sym, ap, ◌∙◌, subst, arith, length, length-append}
+use Rattle.std.proofs.Common.{ℕ, ◌≡◌, ◌-◌, ◌<◌, ◌≤◌, List, [], ◌∷◌, ◌++◌, replicate, sym, ap, ◌∙◌, subst, arith, length, length-append}
 use Rattle.std.proofs.lemmas.List.{ext_get_or}
 use Rattle.fleet_base.specs.declared.geometry.Visit.{Visit}
 use Rattle.fleet_base.specs.declared.order.PairId.{PairId}
 use Rattle.fleet_base.specs.declared.report.Report.{Report}
-use Rattle.fleet_base.specs.declared.report.Report.TheVariants.{Arrive, Delay}
 use Rattle.fleet_base.specs.Lists.{row_of}
 use Rattle.fleet_base.specs.Order.{Graph, turned}
 use Rattle.fleet_base.specs.State.{FleetState, order_at, released, released_count, start_ahead}
@@ -14,6 +13,7 @@ use Rattle.fleet_base.proofs.GraphLaws.{length-map, get_or-map}
 use Rattle.fleet_core.specs.Step.{Step, heard_of, tick_of}
 use Rattle.fleet_core.proofs.Applied.{step_window}
 use Rattle.fleet_core.proofs.Delaying.{step_keeps_rules}
+use Rattle.fleet_core.proofs.Counts.{heard_releases}
 use Rattle.journal_frame.specs.Entries.{Accepted}
 use Rattle.journal_frame.proofs.EntryLaws.{entry_one}
 use Rattle.fleet_recovery.specs.Entries.{Enters, Leads}
@@ -45,10 +45,6 @@ first_ahead_one g window x y one two = releases_one g 0 (start_ahead g window) x
 
 pub first_one : (g : Graph) (x y : FleetState) → IsFirstState g x → IsFirstState g y → x ≡ y
 first_one g x y one two = first_ahead_one g 1 x y one two
-
-heard_releases : (x : FleetState) (report : Report) → (heard_of x report).releases ≡ x.releases
-heard_releases x (Arrive i k tick) = refl
-heard_releases x (Delay i k extra tick) = refl
 
 step_one : (g : Graph) (x : FleetState) (report : Report) (switched : List PairId) (rs ss : List Visit) (y z : FleetState) → IsFleetState g x → Step g x report switched rs y → Step g x report switched ss z → y ≡ z
 step_one g x report switched rs ss y z s one two =

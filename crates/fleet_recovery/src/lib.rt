@@ -9,6 +9,6 @@ mod papers;
 mod replay;
 
 pub use error::RecoverError;
-pub use looking::{Looked, look};
-pub use opening::recover;
+pub use looking::{Looked, look, look_on};
+pub use opening::{recover, recover_on};
 pub use papers::Papers;

@@ -15,7 +15,7 @@ use crate::RecoverError;
 use crate::papers::{Papers, other_papers};
 use crate::replay::replay;
 use fleet_base::{Fleet, PairTable, SoundPlan};
-use fleet_core::first_state;
+use fleet_core::first_state_on;
 use fleet_journal::{Finding, Journal, JournalError, OtherSide};
 use plan_graph::PlanGraph;
 use station_api::Station;
@@ -52,7 +52,34 @@ pub fn look<T: Station>(
     ensures counted { Counted (T.counts station.old) (T.counts station.new) }
     ensures cause { IsErrOf result (RecoverError.Journal JournalError.Station) → IsToBlame (T.counts station.old) (T.counts station.new) }
 {
-    let fleet = first_state(alloc, plan, pairs)?;
+    let graph = PlanGraph::new(alloc, plan, pairs)?;
+    look_on(alloc, station, &graph, plan, pairs, map, text)
+}
+
+/// The same over the graph of the plan, where it is made already.
+pub fn look_on<T: Station>(
+    alloc: Global,
+    station: &mut T,
+    graph: &PlanGraph,
+    plan: &SoundPlan,
+    pairs: &PairTable,
+    map: &[u8],
+    text: &[u8],
+) -> Result<Looked, RecoverError>
+    requires pairs { pairs.now ≡ pairs_of plan.now }
+    requires graph { graph.now ≡ graph_of plan.now }
+    ensures rules { IfOk result (λ looked. IsFleetState (graph_of plan.now) looked.fleet) }
+
+    // The state is that for which the sides stand, and the journal is that of the side taken.
+    ensures found { T.tells → IfOk result (λ looked. IsLooked plan.now (record { map = map.now; plan = text.now }) (T.clock station.old).seen looked.fleet looked.base looked.live) }
+
+    // A refusal comes only where the sides mean it.
+    ensures refused { IfErr result (LookRefuses (λ image. T.tells → IsImage plan.now (record { map = map.now; plan = text.now }) (T.clock station.old).seen image)) }
+    ensures quiet { T.tells → IsQuiet (T.clock station.old) (T.clock station.new) }
+    ensures counted { Counted (T.counts station.old) (T.counts station.new) }
+    ensures cause { IsErrOf result (RecoverError.Journal JournalError.Station) → IsToBlame (T.counts station.old) (T.counts station.new) }
+{
+    let fleet = first_state_on(alloc, graph, plan, pairs, 1)?;
     match Journal::find(alloc, station)? {
         Finding::Blank => Ok(Looked {
             base: fleet.count(),
@@ -67,8 +94,7 @@ pub fn look<T: Station>(
             if let Some(at) = other_papers(&header, &Papers { map, plan: text }) {
                 return Err(RecoverError::OtherPlan { at });
             }
-            let graph = PlanGraph::new(alloc, plan, pairs)?;
-            read_all(alloc, station, &graph, fleet, journal, other)
+            read_all(alloc, station, graph, fleet, journal, other)
         }
     }
 }

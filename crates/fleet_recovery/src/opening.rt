@@ -17,10 +17,11 @@ ghost use Rattle.fleet_recovery.specs.Image.{IsImage};
 ghost use Rattle.fleet_recovery.specs.Answers.{MakeRefuses, RecoverRefuses, UnlessStation};
 ghost use Rattle.fleet_recovery.specs.Opening.{IsOpening, SyncsFirst, StandsStill, Opens, IsAtRest};
 
-use crate::{Looked, RecoverError, look};
+use crate::{Looked, RecoverError, look_on};
 use fleet_base::{Fleet, Memory, PairTable, SoundPlan, Text};
 use fleet_journal::{Journal, JournalError, OtherSide, framed};
 use journal_frame::{Header, header_bytes};
+use plan_graph::PlanGraph;
 use station_api::{DiskSide, Station, sync_both};
 use std::alloc::Global;
 
@@ -68,8 +69,60 @@ pub fn recover<T: Station>(
     ensures counted { Counted (T.counts station.old) (T.counts station.new) }
     ensures cause { IsErrOf result (RecoverError.Journal JournalError.Station) → IsToBlame (T.counts station.old) (T.counts station.new) }
 {
+    match PlanGraph::new(alloc, plan, pairs) {
+        Ok(graph) => recover_on(alloc, station, &graph, plan, pairs, map, text, side_limit),
+        // Both sides are synced before every answer but a fault of the station.
+        Err(memory) => match sync_both(station) {
+            Ok(()) => Err(memory.into()),
+            Err(failed) => Err(failed.into()),
+        },
+    }
+}
+
+/// The same over the graph of the plan, where it is made already.
+pub fn recover_on<T: Station>(
+    alloc: Global,
+    station: &mut T,
+    graph: &PlanGraph,
+    plan: &SoundPlan,
+    pairs: &PairTable,
+    map: &[u8],
+    text: &[u8],
+    side_limit: u64,
+) -> Result<(Fleet, Journal), RecoverError>
+    requires pairs { pairs.now ≡ pairs_of plan.now }
+    requires graph { graph.now ≡ graph_of plan.now }
+    requires few { length map.now + length text.now + 27 < 2 ^ 32 }
+    ensures rules { IfOk result (λ opened. IsFleetState (graph_of plan.now) opened.0) }
+
+    // At each moment of the call a stop leaves what one before it might have left, or what stands for the same state.
+    ensures any_moment { T.tells → LeavesOnly (IsOpening plan.now (record { map = map.now; plan = text.now }) (T.clock station.old)) (T.clock station.old) (T.clock station.new) }
+
+    // In the end, whatever the answer, nothing has happened, or all that a stop may leave now stands for that state.
+    ensures afterwards { T.tells → IsQuiet (T.clock station.old) (T.clock station.new) ⊎ LeavesNow (StandsStill plan.now (record { map = map.now; plan = text.now }) (T.clock station.old).seen) (T.clock station.new) }
+
+    // Whatever the answer, from the moment at which both sides are synced a stop leaves what was read, or what stands for the
+    // same state. Only a fault of the station comes before that moment.
+    ensures synced { T.tells → SyncsFirst plan.now (record { map = map.now; plan = text.now }) (T.clock station.old) (T.clock station.new) ⊎ (IsErrOf result (RecoverError.Journal JournalError.Station) × IsQuiet (T.clock station.old) (T.clock station.new)) }
+
+    // At Ok the state is that for which the sides stood, and station and journal are at rest with it. The side taken ends
+    // at its closed gate.
+    ensures restores { T.tells → IfOk result (λ opened. Opens plan.now (record { map = map.now; plan = text.now }) (T.clock station.old).seen opened.0 opened.1.place) }
+    ensures rests { T.tells → IfOk result (λ opened. IsAtRest plan.now (record { map = map.now; plan = text.now }) opened.1 opened.0 (T.clock station.new)) }
+    ensures ends { T.tells → IfOk result (λ opened. length (side_of opened.1.side (T.clock station.new).seen) ≡ opened.1.place + 1) }
+    ensures unsent { T.tells → (T.clock station.new).seen.sent ≡ (T.clock station.old).seen.sent }
+
+    // A new journal is made only where the header ends within the limit.
+    ensures within { T.tells → IsBlankJournal (T.clock station.old).seen → IfOk result (λ _. length map.now + length text.now + 28 ≤ side_limit) }
+
+    // A refusal comes only where the sides mean it, and after it both sides are as they were.
+    ensures refused { IfErr result (RecoverRefuses (λ image. T.tells → IsImage plan.now (record { map = map.now; plan = text.now }) (T.clock station.old).seen image) (length map.now + length text.now + 28) side_limit) }
+    ensures stays { T.tells → IfErr result (UnlessStation (IsQuiet (T.clock station.old) (T.clock station.new))) }
+    ensures counted { Counted (T.counts station.old) (T.counts station.new) }
+    ensures cause { IsErrOf result (RecoverError.Journal JournalError.Station) → IsToBlame (T.counts station.old) (T.counts station.new) }
+{
     sync_both(station)?;
-    let Looked { fleet, live, .. } = look(alloc, station, plan, pairs, map, text)?;
+    let Looked { fleet, live, .. } = look_on(alloc, station, graph, plan, pairs, map, text)?;
     let journal = match live {
         None => make(alloc, station, map, text, side_limit)?,
         Some((journal, other)) => finish(station, journal, other)?,
