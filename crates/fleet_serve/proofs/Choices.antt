@@ -10,6 +10,7 @@ use Rattle.fleet_base.specs.Order.{Graph, IsSoundOrder}
 use Rattle.fleet_base.specs.Open.{is_open, KeepsClosed}
 use Rattle.fleet_base.specs.State.{FleetState}
 use Rattle.fleet_base.specs.Rules.{IsFleetState}
+use Rattle.fleet_base.specs.Bytes.{text_of_lines}
 use Rattle.order_choice.specs.declared.outcome.Outcome.{Outcome}
 use Rattle.order_choice.specs.Choices.{IsChosen, AreSwitches}
 use Rattle.order_choice.proofs.Switches.{opens, switched_choice}
@@ -17,8 +18,7 @@ use Rattle.fleet_core.specs.declared.judging.Judged.TheVariants.{Accept}
 use Rattle.fleet_core.specs.Judgement.{judgement_of}
 use Rattle.fleet_core.specs.Step.{heard_of}
 use Rattle.fleet_core.proofs.Delaying.{heard_delay_keeps_rules}
-use Rattle.fleet_serve.specs.declared.outcome.Settings.{Settings}
-use Rattle.fleet_serve.specs.Lines.{text_of}
+use Rattle.fleet_serve.specs.declared.session.Settings.{Settings}
 use Rattle.fleet_serve.specs.Chosen.{TellsChoice, choice_lines}
 
 -- pairs that differ are there
@@ -31,7 +31,7 @@ module _ (g : Graph) (x : FleetState) (order : ℕ → Option Side) (switched : 
   found_open k d h = opens g x order switched state sound keeps are (get_or switched k d) (Contains-get_or switched k d h)
 
   -- a text of the lines of its choice tells what was found
-  pub found_tells : (settings : Settings) (cost : ℕ) (outcome : Outcome) (text : List ℕ) → IsChosen g x settings.budget order cost outcome → text ≡ text_of (choice_lines settings.quiet switched cost outcome) → (told : List (List ℕ)) × TellsChoice g settings x switched told × (text ≡ text_of told)
+  pub found_tells : (settings : Settings) (cost : ℕ) (outcome : Outcome) (text : List ℕ) → IsChosen g x settings.budget order cost outcome → text ≡ text_of_lines (choice_lines settings.quiet switched cost outcome) → (told : List (List ℕ)) × TellsChoice g settings x switched told × (text ≡ text_of_lines told)
   found_tells settings cost outcome text chosen is =
       (choice_lines settings.quiet switched cost outcome, record { cost = cost; outcome = outcome; choice = switched_choice g x order switched state sound keeps are settings.budget cost outcome chosen; lines_are = refl }, is)
 

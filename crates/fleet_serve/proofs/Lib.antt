@@ -1,5 +1,6 @@
 pub mod Choices
 pub mod Counting
+pub mod Courses
 pub mod Decided
 pub mod Fronts
 pub mod GoingOn

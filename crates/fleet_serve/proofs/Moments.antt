@@ -1,9 +1,10 @@
 -- How counts and clocks go on from call to call.
-use Rattle.std.proofs.Common.{ℕ, ◌≡◌, ◌⊎◌, ◌≤◌, refl, ◌∙◌, inl, inr, ⊎_elim, arith, IsTrue}
+use Rattle.std.proofs.Common.{ℕ, ◌⊎◌, ◌≤◌, refl, ◌∙◌, inl, ⊎_elim, arith}
 use Rattle.station_api.specs.Causes.{Counts, Counted, Rose, IsToBlame}
 use Rattle.station_api.specs.Clock.{Clock}
 use Rattle.station_api.specs.Disk.{IsSending}
 use Rattle.station_api.proofs.Moments.{passes_self, passes_on}
+use Rattle.fleet_recovery.proofs.Passing.{counted_on}
 
 -- a count that rose later rose in the whole, and so did one that rose before
 pub rose_later : (a b c : ℕ) → a ≤ b → Rose b c → Rose a c
@@ -12,22 +13,9 @@ rose_later a b c le r = omega (arith, le, r)
 pub rose_before : (a b c : ℕ) → Rose a b → b ≤ c → Rose a c
 rose_before a b c r le = omega (arith, r, le)
 
--- no call at all, and one call after another
+-- no call at all
 pub counted_self : (a : Counts) → Counted a a
 counted_self a = record { later = omega arith; starved_later = omega arith; stays = λ t. t; starves = λ t. inl refl }
-
-pub counted_on : (a b c : Counts) → Counted a b → Counted b c → Counted a c
-counted_on a b c x y = record {
-  later = omega (arith, x.later, y.later);
-  starved_later = omega (arith, x.starved_later, y.starved_later);
-  stays = λ t. y.stays (x.stays t);
-  starves = λ t. go t (x.starves t) (y.starves (x.stays t));
-}
-  where
-    go : IsTrue a.flawless → (b.faults ≡ a.faults) ⊎ Rose a.starved b.starved → (c.faults ≡ b.faults) ⊎ Rose b.starved c.starved → (c.faults ≡ a.faults) ⊎ Rose a.starved c.starved
-    go t (inl e) (inl f) = inl (f ∙ e)
-    go t (inl e) (inr r) = inr (rose_later a.starved b.starved c.starved x.starved_later r)
-    go t (inr r) q = inr (rose_before a.starved b.starved c.starved r y.starved_later)
 
 -- an object that is to blame for the last call is to blame for the whole
 pub blamed_on : (a b c : Counts) → Counted a b → IsToBlame b c → IsToBlame a c

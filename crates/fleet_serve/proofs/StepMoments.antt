@@ -7,6 +7,7 @@ use Rattle.fleet_base.specs.Order.{graph_of}
 use Rattle.fleet_base.specs.State.{FleetState}
 use Rattle.fleet_base.specs.Rules.{IsFleetState}
 use Rattle.fleet_base.specs.declared.report.Report.{Report}
+use Rattle.fleet_base.specs.Bytes.{text_of_lines}
 use Rattle.report_text.specs.ReportLine.{IsReportLine}
 use Rattle.station_api.specs.Scene.{Scene, Extends, side_of, other_of}
 use Rattle.station_api.specs.Clock.{Clock, LeavesOnly, IsKept}
@@ -25,22 +26,23 @@ use Rattle.fleet_recovery.specs.Image.{HoldsState}
 use Rattle.fleet_recovery.specs.Opening.{StandsWith, IsAtRest}
 use Rattle.fleet_recovery.proofs.Following.{means-push}
 use Rattle.fleet_recovery.proofs.Sending.{holds_sending, stands_hold, rest_stands}
-use Rattle.fleet_serve.specs.declared.outcome.Settings.{Settings}
-use Rattle.fleet_serve.specs.declared.deciding.Decision.TheVariants.{Say, Keep}
+use Rattle.fleet_serve.specs.declared.session.Settings.{Settings}
+use Rattle.fleet_serve.specs.declared.decision.Decision.TheVariants.{Say, Keep}
+use Rattle.fleet_serve.specs.declared.decision.Reply.{Reply}
 use Rattle.fleet_serve.specs.declared.outcome.StepFault.TheVariants.{Station}
-use Rattle.fleet_serve.specs.declared.outcome.Turn.{Turn}
 use Rattle.fleet_serve.specs.declared.outcome.Turn.TheVariants.{Done}
-use Rattle.fleet_serve.specs.Lines.{text_of}
 use Rattle.fleet_serve.specs.Turns.{Point, TurnMade, entered}
-use Rattle.fleet_serve.specs.Serving.{Course, course, point_of, IsServing, Moments, Makes, StepLeaves}
+use Rattle.fleet_serve.specs.Serving.{Course, stand, point_of, IsServing, Moments, Makes, StepLeaves}
+use Rattle.fleet_serve.specs.Spans.{span}
 use Rattle.fleet_serve.specs.Deciding.{HoldsEither, IsDecided, IsReady}
 use Rattle.journal_frame.specs.Entries.{entry_payload}
+use Rattle.fleet_serve.proofs.Courses.{terms_on, course_on}
 use Rattle.fleet_serve.proofs.Decided.{entry_fits}
 use Rattle.fleet_serve.proofs.Moments.{sending_self, sending_on}
 use Rattle.fleet_serve.proofs.TurnMoments.{serving_none, serving_one, still, unsent_so_far}
 
 -- nothing happens in a call that changes nothing
-pub resting : (routes : List (List PlannedVisit)) (papers : Papers) (settings : Settings) (x : FleetState) (journal : Standing) (tells : Type 0) (clock : Clock) (turns : List TurnMade) → Moments (course routes papers settings x journal x journal tells clock clock) turns
+pub resting : (routes : List (List PlannedVisit)) (papers : Papers) (settings : Settings) (x : FleetState) (journal : Standing) (tells : Type 0) (clock : Clock) (turns : List TurnMade) → Moments (course_on routes papers settings x journal x journal tells clock clock) turns
 resting routes papers settings x journal tells clock turns told rest =
     still (IsServing routes papers (point_of x journal) turns clock.seen.sent) clock
     (serving_none routes papers (point_of x journal) turns clock.seen.sent clock.seen (stands_hold routes papers journal x clock.seen (rest_stands routes papers journal x clock rest)) refl) rest.kept
@@ -55,23 +57,23 @@ module _ (routes : List (List PlannedVisit)) (papers : Papers) (from : Point) (t
       one c (inr h) same = serving_one routes papers from turn old.seen.sent c h same
 
   -- while a front of its text is sent, the sides hold the state after the turn
-  pub sending_moments : (sent : List ℕ) (mid new : Clock) → IsKept mid → HoldsState routes papers mid.seen turn.after.state → mid.seen.sent ≡ sent → IsSending mid new → (n : ℕ) → new.seen.sent ≡ mid.seen.sent ++ take n (text_of turn.answer)
+  pub sending_moments : (sent : List ℕ) (mid new : Clock) → IsKept mid → HoldsState routes papers mid.seen turn.after.state → mid.seen.sent ≡ sent → IsSending mid new → (n : ℕ) → new.seen.sent ≡ mid.seen.sent ++ take n (text_of_lines turn.answer)
       → LeavesOnly (IsServing routes papers from (turn ∷ []) sent) mid new
   sending_moments sent mid new kept holds same sending n now = record { passes = sending.passes; each = λ c left. one c (sending.stop c left) (sending.passes.grows c left) }
     where
       one : (c : Scene) → (d : Scene) × mid.may_leave d × (c.a ≡ d.a) × (c.b ≡ d.b) → Extends mid.seen.sent c.sent × Extends c.sent new.seen.sent → IsServing routes papers from (turn ∷ []) sent c
       one c (d, may, a, b) ((more, is), (rest, has)) =
           let at : d ≡ mid.seen = kept d may in
-          let whole : mid.seen.sent ++ take n (text_of turn.answer) ≡ mid.seen.sent ++ (more ++ rest) = sym now ∙ has ∙ ap (λ (l : List ℕ). l ++ rest) is ∙ append_assoc mid.seen.sent more rest in
-          let part : more ++ rest ≡ take n (text_of turn.answer) = sym (append_cancel_left mid.seen.sent (take n (text_of turn.answer)) (more ++ rest) whole) in
-          let all : more ++ (rest ++ drop n (text_of turn.answer)) ≡ text_of turn.answer =
-          sym (append_assoc more rest (drop n (text_of turn.answer))) ∙ ap (λ (l : List ℕ). l ++ drop n (text_of turn.answer)) part ∙ take-append-drop n (text_of turn.answer) in
+          let whole : mid.seen.sent ++ take n (text_of_lines turn.answer) ≡ mid.seen.sent ++ (more ++ rest) = sym now ∙ has ∙ ap (λ (l : List ℕ). l ++ rest) is ∙ append_assoc mid.seen.sent more rest in
+          let part : more ++ rest ≡ take n (text_of_lines turn.answer) = sym (append_cancel_left mid.seen.sent (take n (text_of_lines turn.answer)) (more ++ rest) whole) in
+          let all : more ++ (rest ++ drop n (text_of_lines turn.answer)) ≡ text_of_lines turn.answer =
+          sym (append_assoc more rest (drop n (text_of_lines turn.answer))) ∙ ap (λ (l : List ℕ). l ++ drop n (text_of_lines turn.answer)) part ∙ take-append-drop n (text_of_lines turn.answer) in
           record {
             made = 1;
             part = more;
             holds = holds_sending routes papers turn.after.state mid.seen c (a ∙ ap (λ (s : Scene). s.a) at) (b ∙ ap (λ (s : Scene). s.b) at) holds;
             sent_is = is ∙ ap (λ (l : List ℕ). l ++ more) same;
-            front = (rest ++ drop n (text_of turn.answer), all ∙ ap text_of (sym (append-nil turn.answer)));
+            front = (rest ++ drop n (text_of_lines turn.answer), all ∙ ap text_of_lines (sym (append-nil turn.answer)));
           }
 
 -- ---- an entry that is kept
@@ -105,10 +107,10 @@ same_point p q state place = ap (λ (x : FleetState). let r : Point = record { s
 
 -- ---- a turn whose entry is kept, if it has one, and whose text is to be sent
 
-module _ (routes : List (List PlannedVisit)) (papers : Papers) (settings : Settings) (x : FleetState) (journal : Standing) (tells : Type 0) (old : Clock) (line text : List ℕ) (rules : IsFleetState (graph_of routes) x) (stands : tells → StandsWith routes papers journal x old.seen) where
+module _ (routes : List (List PlannedVisit)) (papers : Papers) (settings : Settings) (x : FleetState) (journal : Standing) (tells : Type 0) (old : Clock) (line : List ℕ) (rules : IsFleetState (graph_of routes) x) (stands : tells → StandsWith routes papers journal x old.seen) where
   -- a turn that changes nothing
-  pub said_ready : (said : Turn) → IsDecided routes settings (point_of x journal) line text (Say said) → IsReady routes papers settings x x journal journal tells old old line text said
-  said_ready said (turn, s, ends) = record {
+  pub said_ready : (reply : Reply) → IsDecided routes settings (point_of x journal) line (Say reply) → IsReady (terms_on routes papers settings) (stand x journal) (stand x journal) (span tells old old) line reply
+  said_ready reply (turn, s, ends) = record {
     turn = turn;
     line_is = s.line_is;
     is_turn = s.is_turn;
@@ -124,7 +126,7 @@ module _ (routes : List (List PlannedVisit)) (papers : Papers) (settings : Setti
   }
 
   -- a turn whose entry is kept
-  module _ (entry : Entry) (frame : List ℕ) (decided : IsDecided routes settings (point_of x journal) line text (Keep entry frame)) where
+  module _ (entry : Entry) (frame text : List ℕ) (decided : IsDecided routes settings (point_of x journal) line (Keep entry frame text)) where
     abbrev turn : TurnMade
     turn = decided.1
 
@@ -138,9 +140,6 @@ module _ (routes : List (List PlannedVisit)) (papers : Papers) (settings : Setti
     -- its frame is short, and there is room for it
     pub frame_length : length frame ≡ 5 + length payload
     frame_length = ap length decided.6.frame_is.2 ∙ length-frame_text payload
-
-    pub frame_short : length frame < 2 ^ 32
-    frame_short = decided.6.frame_is.3
 
     pub frame_fits : journal.place + length frame + 1 < 2 ^ 64
     frame_fits = omega (arith, frame_length, decided.5, entry_fits (graph_of routes) settings.side_limit journal.place x payload decided.0 entry.switched entry.releases turn.after.state decided.6.frame_is.1 entered_step decided.3)
@@ -159,7 +158,7 @@ module _ (routes : List (List PlannedVisit)) (papers : Papers) (settings : Setti
     pub kept_ready : (y : FleetState) (later : Standing) (mid : Clock) (count : ℕ) → y ≡ turn.after.state → later.place ≡ journal.place + length frame → count ≡ y.count
         → (tells → StandsWith routes papers later turn.after.state mid.seen) → (tells → IsAtRest routes papers journal x old → IsAtRest routes papers later turn.after.state mid)
         → (tells → IsAtRest routes papers journal x old → LeavesOnly (HoldsEither routes papers x turn.after.state) old mid) → (tells → mid.seen.sent ≡ old.seen.sent)
-        → IsReady routes papers settings x y journal later tells old mid line text (Done count)
+        → IsReady (terms_on routes papers settings) (stand x journal) (stand y later) (span tells old mid) line (record { turn = Done count; text = text })
     kept_ready y later mid count state place number stood rested run quiet =
         let e = decided.6.enters in
         let long : length (entry_payload decided.0 e.entry.switched) ≡ length payload = ap (λ (n : Entry). length (entry_payload decided.0 n.switched)) decided.6.same ∙ sym (ap length decided.6.frame_is.1.payload_is) in
@@ -180,10 +179,10 @@ module _ (routes : List (List PlannedVisit)) (papers : Papers) (settings : Setti
           untouched = λ told none. absurd (has_entry e.entry turn.entry e.entry_is none);
         }
 
-module _ (routes : List (List PlannedVisit)) (papers : Papers) (settings : Settings) (x y : FleetState) (journal later : Standing) (tells : Type 0) (old mid new : Clock) (line text bytes : List ℕ) (said : Turn)
-    (ready : IsReady routes papers settings x y journal later tells old mid line text said) (same : bytes ≡ text) (sending : tells → IsSending mid new) where
+module _ (routes : List (List PlannedVisit)) (papers : Papers) (settings : Settings) (x y : FleetState) (journal later : Standing) (tells : Type 0) (old mid new : Clock) (line bytes : List ℕ) (reply : Reply)
+    (ready : IsReady (terms_on routes papers settings) (stand x journal) (stand y later) (span tells old mid) line reply) (same : bytes ≡ reply.text) (sending : tells → IsSending mid new) where
   abbrev s : Course
-  s = course routes papers settings x journal y later tells old new
+  s = course_on routes papers settings x journal y later tells old new
 
   makes : (tells → (n : ℕ) × (new.seen.sent ≡ mid.seen.sent ++ take n bytes)) → Makes s line ready.turn
   makes part = record {
@@ -198,7 +197,7 @@ module _ (routes : List (List PlannedVisit)) (papers : Papers) (settings : Setti
   }
 
   -- the text is sent whole
-  pub step_done : (tells → new.seen.sent ≡ mid.seen.sent ++ bytes) → StepLeaves s line (Ok said)
+  pub step_done : (tells → new.seen.sent ≡ mid.seen.sent ++ bytes) → StepLeaves s line (Ok reply.turn)
   step_done sent = (
     ready.turn,
     makes (λ told. (length bytes, sent told ∙ ap (λ (l : List ℕ). mid.seen.sent ++ l) (sym (take_all (length bytes) bytes (omega arith))))),
@@ -216,10 +215,10 @@ module _ (routes : List (List PlannedVisit)) (papers : Papers) (settings : Setti
   )
 
 -- the entry was not kept: nothing is sent
-pub step_broken : (routes : List (List PlannedVisit)) (papers : Papers) (settings : Settings) (x y : FleetState) (journal later : Standing) (tells : Type 0) (old mid : Clock) (line text : List ℕ) (entry : Entry) (frame : List ℕ)
-    (decided : IsDecided routes settings (point_of x journal) line text (Keep entry frame)) → (tells → IsAtRest routes papers journal x old → LeavesOnly (HoldsEither routes papers x decided.1.after.state) old mid) → (tells → mid.seen.sent ≡ old.seen.sent)
-    → StepLeaves (course routes papers settings x journal y later tells old mid) line (Err Station)
-step_broken routes papers settings x y journal later tells old mid line text entry frame decided run quiet = (
+pub step_broken : (routes : List (List PlannedVisit)) (papers : Papers) (settings : Settings) (x y : FleetState) (journal later : Standing) (tells : Type 0) (old mid : Clock) (line : List ℕ) (entry : Entry) (frame text : List ℕ)
+    (decided : IsDecided routes settings (point_of x journal) line (Keep entry frame text)) → (tells → IsAtRest routes papers journal x old → LeavesOnly (HoldsEither routes papers x decided.1.after.state) old mid) → (tells → mid.seen.sent ≡ old.seen.sent)
+    → StepLeaves (course_on routes papers settings x journal y later tells old mid) line (Err Station)
+step_broken routes papers settings x y journal later tells old mid line entry frame text decided run quiet = (
   decided.1,
   record {
     line_is = decided.4;

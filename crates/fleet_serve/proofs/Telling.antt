@@ -24,7 +24,7 @@ use Rattle.report_text.specs.AnswerLine.{answer_line}
 use Rattle.report_text.proofs.PlainLines.{answer_line-at_least}
 use Rattle.order_choice.specs.declared.outcome.Outcome.{Outcome}
 use Rattle.order_choice.specs.declared.outcome.Outcome.TheVariants.{Optimal, Spent}
-use Rattle.fleet_serve.specs.declared.outcome.Settings.{Settings}
+use Rattle.fleet_serve.specs.declared.session.Settings.{Settings}
 use Rattle.order_choice.specs.Choices.{cert_of}
 use Rattle.fleet_serve.specs.Chosen.{order_answer, switch_lines, shown_lines, Chooses}
 

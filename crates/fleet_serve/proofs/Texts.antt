@@ -19,18 +19,19 @@ use Rattle.fleet_base.proofs.GraphLaws.{length-map, last_is, route_is_some}
 use Rattle.fleet_base.proofs.Ranges.{range_more}
 use Rattle.fleet_base.proofs.Members.{from_flat_map, from_range}
 use Rattle.fleet_base.proofs.AllVisits.{from_map}
-use Rattle.fleet_serve.specs.Lines.{text_of, release_lines, pending_of}
+use Rattle.fleet_base.specs.Bytes.{text_of_lines}
+use Rattle.fleet_serve.specs.Lines.{release_lines, pending_of}
 use Rattle.fleet_serve.specs.Reading.{kept_of}
 
-pub text-append : (a b : List (List ℕ)) → text_of (a ++ b) ≡ text_of a ++ text_of b
+pub text-append : (a b : List (List ℕ)) → text_of_lines (a ++ b) ≡ text_of_lines a ++ text_of_lines b
 text-append a b = flat_map-append (λ (line : List ℕ). line ++ 10 ∷ []) a b
 
 -- the text of releases, and of some more
-pub releases-append : (routes : List (List PlannedVisit)) (a b : List Visit) → text_of (release_lines routes (a ++ b)) ≡ text_of (release_lines routes a) ++ text_of (release_lines routes b)
-releases-append routes a b = ap text_of (map-append (release_line routes) a b) ∙ text-append (release_lines routes a) (release_lines routes b)
+pub releases-append : (routes : List (List PlannedVisit)) (a b : List Visit) → text_of_lines (release_lines routes (a ++ b)) ≡ text_of_lines (release_lines routes a) ++ text_of_lines (release_lines routes b)
+releases-append routes a b = ap text_of_lines (map-append (release_line routes) a b) ∙ text-append (release_lines routes a) (release_lines routes b)
 
-pub releases_more : (routes : List (List PlannedVisit)) (vs : List Visit) (i : ℕ) (d : Visit) → i < length vs → text_of (release_lines routes (take (i + 1) vs)) ≡ text_of (release_lines routes (take i vs)) ++ text_of (release_lines routes (get_or vs i d ∷ []))
-releases_more routes vs i d h = ap (λ (l : List Visit). text_of (release_lines routes l)) (take_more vs i d h) ∙ releases-append routes (take i vs) (get_or vs i d ∷ [])
+pub releases_more : (routes : List (List PlannedVisit)) (vs : List Visit) (i : ℕ) (d : Visit) → i < length vs → text_of_lines (release_lines routes (take (i + 1) vs)) ≡ text_of_lines (release_lines routes (take i vs)) ++ text_of_lines (release_lines routes (get_or vs i d ∷ []))
+releases_more routes vs i d h = ap (λ (l : List Visit). text_of_lines (release_lines routes l)) (take_more vs i d h) ∙ releases-append routes (take i vs) (get_or vs i d ∷ [])
 
 -- a text and one piece more behind what was written
 pub written_more : (start now new more all next : List ℕ) → now ≡ start ++ all → new ≡ now ++ more → next ≡ all ++ more → new ≡ start ++ next
@@ -65,11 +66,11 @@ robots_more x n =
 
 -- a greeting's text with the releases of one robot more
 pub greeting_more : (routes : List (List PlannedVisit)) (x : FleetState) (first : List ℕ) (n : ℕ)
-    → text_of (first ∷ release_lines routes (flat_map (pending_of x) (range 0 n))) ++ text_of (release_lines routes (pending_of x n)) ≡ text_of (first ∷ release_lines routes (flat_map (pending_of x) (range 0 (n + 1))))
+    → text_of_lines (first ∷ release_lines routes (flat_map (pending_of x) (range 0 n))) ++ text_of_lines (release_lines routes (pending_of x n)) ≡ text_of_lines (first ∷ release_lines routes (flat_map (pending_of x) (range 0 (n + 1))))
 greeting_more routes x first n =
-    append_assoc (first ++ 10 ∷ []) (text_of (release_lines routes (flat_map (pending_of x) (range 0 n)))) (text_of (release_lines routes (pending_of x n)))
+    append_assoc (first ++ 10 ∷ []) (text_of_lines (release_lines routes (flat_map (pending_of x) (range 0 n)))) (text_of_lines (release_lines routes (pending_of x n)))
     ∙ ap (λ (t : List ℕ). (first ++ 10 ∷ []) ++ t)
-    (sym (releases-append routes (flat_map (pending_of x) (range 0 n)) (pending_of x n)) ∙ ap (λ (l : List Visit). text_of (release_lines routes l)) (sym (robots_more x n)))
+    (sym (releases-append routes (flat_map (pending_of x) (range 0 n)) (pending_of x n)) ∙ ap (λ (l : List Visit). text_of_lines (release_lines routes l)) (sym (robots_more x n)))
 
 -- ---- visits on their routes
 

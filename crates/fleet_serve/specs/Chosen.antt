@@ -13,7 +13,7 @@ use Rattle.fleet_core.specs.Step.{heard_of}
 use Rattle.order_choice.specs.declared.outcome.Outcome.{Outcome}
 use Rattle.order_choice.specs.declared.outcome.Outcome.TheVariants.{Optimal, Spent}
 use Rattle.order_choice.specs.Choices.{Choice, cert_of}
-use Rattle.fleet_serve.specs.declared.outcome.Settings.{Settings}
+use Rattle.fleet_serve.specs.declared.session.Settings.{Settings}
 
 -- what is said of an order of this cost: that none is cheaper, or what the search left when its budget was spent
 abbrev pub order_answer : ℕ → Outcome → Answer

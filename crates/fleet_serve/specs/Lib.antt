@@ -1,10 +1,12 @@
 pub mod Chosen
 pub mod Deciding
+pub mod Faults
 pub mod Kits
 pub mod Lines
 pub mod Marks
 pub mod Reading
 pub mod Room
 pub mod Serving
+pub mod Spans
 pub mod Told
 pub mod Turns

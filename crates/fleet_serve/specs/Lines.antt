@@ -8,10 +8,6 @@ use Rattle.fleet_base.specs.World.{release_line}
 use Rattle.report_text.specs.declared.answer.Answer.TheVariants.{Ready, Done}
 use Rattle.report_text.specs.AnswerLine.{answer_line}
 
--- lines, each with its line end
-abbrev pub text_of : List (List ℕ) → List ℕ
-text_of lines = flat_map (λ line. line ++ 10 ∷ []) lines
-
 -- the lines that release visits
 abbrev pub release_lines : List (List PlannedVisit) → List Visit → List (List ℕ)
 release_lines routes visits = map (release_line routes) visits

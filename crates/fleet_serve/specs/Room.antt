@@ -1,5 +1,5 @@
 -- The room that the frame of a report needs.
-use Rattle.std.specs.Prelude.{ℕ, ◌+◌, ◌*◌, ◌^◌, ◌<◌, ◌≤◌, length}
+use Rattle.std.specs.Prelude.{ℕ, ◌+◌, ◌*◌, ◌<◌, ◌≤◌, length}
 use Rattle.std.specs.List.{count_by}
 use Rattle.fleet_base.specs.declared.report.Report.{Report}
 use Rattle.fleet_base.specs.declared.report.Report.TheVariants.{Arrive, Delay}
@@ -7,6 +7,7 @@ use Rattle.fleet_base.specs.Lists.{range}
 use Rattle.fleet_base.specs.Order.{Graph}
 use Rattle.fleet_base.specs.Open.{is_open}
 use Rattle.fleet_base.specs.State.{FleetState}
+use Rattle.fleet_base.specs.Limits.{report_limit}
 
 -- how many pairs are open
 abbrev pub open_count : Graph → FleetState → ℕ
@@ -21,4 +22,4 @@ counted_length g x (Delay i k extra tick) = 25 + 4 * open_count g x
 -- report has a number.
 pub record HasRoom (g : Graph) (limit place : ℕ) (x : FleetState) (report : Report) : Type 0 where
   pub side : place + 5 + counted_length g x report + 1 ≤ limit
-  pub number : x.count < 2 ^ 62
+  pub number : x.count < report_limit

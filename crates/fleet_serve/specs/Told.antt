@@ -7,6 +7,10 @@ pub record Told : Type 1 where
   pub before : List ℕ
   pub now : List ℕ
 
+-- these bytes before and after
+abbrev pub told : Type 0 → List ℕ → List ℕ → Told
+told tells before now = record { tells = tells; before = before; now = now }
+
 -- these bytes were sent, behind all that was sent before
 abbrev pub Sends : Told → List ℕ → Type 0
 Sends line bytes = line.tells → line.now ≡ line.before ++ bytes

@@ -3,16 +3,17 @@ ghost use Rattle.std.specs.Prelude.{◌≡◌, ◌++◌, ◌<◌, length, IfOk, 
 ghost use Rattle.fleet_base.specs.Plan.{AreRoutes};
 ghost use Rattle.fleet_base.specs.Order.{graph_of};
 ghost use Rattle.fleet_base.specs.Rules.{IsFleetState};
+ghost use Rattle.fleet_base.specs.Bytes.{text_of_lines};
 ghost use Rattle.station_api.specs.Causes.{Counted, IsToBlame};
 ghost use Rattle.station_api.specs.Disk.{IsSending};
-ghost use Rattle.fleet_serve.specs.Lines.{text_of, release_lines, pending_of, greeting_of};
-ghost use Rattle.fleet_serve.specs.Told.{Told};
+ghost use Rattle.fleet_serve.specs.Lines.{release_lines, pending_of, greeting_of};
+ghost use Rattle.fleet_serve.specs.Spans.{span, sent_over};
 ghost use Rattle.fleet_serve.specs.Serving.{Said};
 
-use crate::answering::push_release;
+use crate::answer_text::push_release;
 use crate::kit::Kit;
 use crate::outcome::StepFault;
-use crate::sending::send_all;
+use crate::whole_text::send_all;
 use fleet_base::{Fleet, Memory, SoundPlan, Text, Visit};
 use plan_graph::PlanGraph;
 use report_text::{Answer, push_answer};
@@ -25,32 +26,27 @@ pub fn greet<T: Station>(
     _graph: &PlanGraph,
     plan: &SoundPlan,
     fleet: &Fleet,
-    kit: &mut Kit,
+    _kit: &mut Kit,
     station: &mut T,
 ) -> Result<(), StepFault>
     requires graph { _graph.now ≡ graph_of plan.now }
     requires state { IsFleetState (graph_of plan.now) fleet.now }
-    ensures said { Said (text_of (greeting_of plan.now fleet.now)) (record { tells = T.tells; before = (T.clock station.old).seen.sent; now = (T.clock station.new).seen.sent }) result }
+    ensures said { Said (text_of_lines (greeting_of plan.now fleet.now)) (sent_over (span T.tells (T.clock station.old) (T.clock station.new))) result }
     ensures sides { T.tells → IsSending (T.clock station.old) (T.clock station.new) }
     ensures counted { Counted (T.counts station.old) (T.counts station.new) }
     ensures cause { IsErrOf result StepFault.Station → IsToBlame (T.counts station.old) (T.counts station.new) }
     ensures memory { IsErrOf result StepFault.Memory → station.new ≡ station.old }
-    ensures room { kit.new.room ≡ kit.old.room }
+    ensures room { _kit.new.room ≡ _kit.old.room }
 {
-    match greeting_text(alloc, plan, fleet) {
-        Ok(text) => kit.text = text,
-        Err(_) => return Err(StepFault::Memory),
-    }
-    match send_all(station, kit.text.as_slice()) {
-        Ok(()) => Ok(()),
-        Err(_) => Err(StepFault::Station),
-    }
+    let text = greeting_text(alloc, plan, fleet)?;
+    send_all(station, text.as_slice())?;
+    Ok(())
 }
 
 /// The text of a greeting.
 fn greeting_text(alloc: Global, plan: &SoundPlan, fleet: &Fleet) -> Result<Text, Memory>
     requires { IsFleetState (graph_of plan.now) fleet.now }
-    ensures { IfOk result (λ text. text ≡ text_of (greeting_of plan.now fleet.now)) }
+    ensures { IfOk result (λ text. text ≡ text_of_lines (greeting_of plan.now fleet.now)) }
 {
     let mut text = Text::new(alloc);
     let count = fleet.count();
@@ -66,7 +62,7 @@ fn push_pending(text: &mut Text, plan: &SoundPlan, fleet: &Fleet, robot: u32) ->
     requires sound { AreRoutes plan.now }
     requires state { IsFleetState (graph_of plan.now) fleet.now }
     requires robot { robot < length plan.now }
-    ensures { OnOk result (text.new ≡ text.old ++ text_of (release_lines plan.now (pending_of fleet.now robot))) }
+    ensures { OnOk result (text.new ≡ text.old ++ text_of_lines (release_lines plan.now (pending_of fleet.now robot))) }
 {
     for index in fleet.arrived(robot)..fleet.released(robot) {
         let visit = Visit {
