@@ -31,7 +31,8 @@ use Rattle.fleet_cli.specs.Due.{IsAsked, IsDue, a_check, a_made_text, a_refusal}
 use Rattle.fleet_recovery.specs.Papers.{Papers}
 use Rattle.fleet_recovery.specs.Image.{StandsFor}
 use Rattle.fleet_cli.proofs.Opening.{not_refused}
-use Rattle.fleet_cli.specs.Runs.{sent_on, RunEnds, run_settings}
+use Rattle.fleet_cli.specs.Runs.{RunEnds, run_settings}
+use Rattle.fleet_serve.specs.Spans.{sent_over}
 use Rattle.fleet_cli.specs.Lines.{fault_line, status_of}
 use Rattle.fleet_cli.specs.Tasks.{EndsWith}
 use Rattle.fleet_serve.specs.Told.{Sends}
@@ -52,17 +53,17 @@ short_or_long files name bytes n t p l =
 pub same_map : (files : Files) (name : List ℕ) (g g2 : OccupancyGrid) → files.tells → HasMap files name g → HasMap files name g2 → g ≡ g2
 same_map files name g g2 t m m2 = one_map m.bytes g g2 m.text (subst (λ (b : List ℕ). Rattle.map_text.specs.MapText.IsMapText b g2) (sym (same_bytes files name m.bytes m2.bytes t m.paper m2.paper)) m2.text)
 
-same_plan : (files : Files) (map_name plan_name : List ℕ) (g g2 : OccupancyGrid) (plan plan2 : List (List Cell)) → files.tells → HasPlan files map_name plan_name g plan → HasPlan files map_name plan_name g2 plan2 → plan ≡ plan2
+pub same_plan : (files : Files) (map_name plan_name : List ℕ) (g g2 : OccupancyGrid) (plan plan2 : List (List Cell)) → files.tells → HasPlan files map_name plan_name g plan → HasPlan files map_name plan_name g2 plan2 → plan ≡ plan2
 same_plan files map_name plan_name g g2 plan plan2 t p p2 = means_one p.bytes plan plan2 p.text (subst (λ (b : List ℕ). Rattle.plan_text.specs.PlanText.IsPlanText b plan2) (sym (same_bytes files plan_name p.bytes p2.bytes t p.paper p2.paper)) p2.text)
 
 -- of the same files, a sound plan and a refusal are both had only where the shelf failed
-one_or_other : (files : Files) (failed : Type 0) (map_name plan_name : List ℕ) (papers : Papers) (routes : List (List PlannedVisit)) (fault : Fault) → files.tells → IsSoundPaper files map_name plan_name papers routes → IsRefused files failed map_name plan_name fault → failed
+one_or_other : (files : Files) (failed : List ℕ → Type 0) (map_name plan_name : List ℕ) (papers : Papers) (routes : List (List PlannedVisit)) (fault : Fault) → files.tells → IsSoundPaper files map_name plan_name papers routes → IsRefused files failed map_name plan_name fault → (name : List ℕ) × failed name
 one_or_other files failed m p papers routes Usage t s r = absurd r
 one_or_other files failed m p papers routes (Long paper.Map n) t s r = absurd (short_or_long files m s.has.papers.on.bytes n t s.has.papers.on.paper r)
 one_or_other files failed m p papers routes (Long paper.Plan n) t s r = absurd (short_or_long files p s.has.papers.bytes n t s.has.papers.paper r.1)
 one_or_other files failed m p papers routes (Long paper.Scen n) t s r = absurd r
-one_or_other files failed m p papers routes (Unread paper.Map) t s r = r
-one_or_other files failed m p papers routes (Unread paper.Plan) t s r = r.1
+one_or_other files failed m p papers routes (Unread paper.Map) t s r = (m, r)
+one_or_other files failed m p papers routes (Unread paper.Plan) t s r = (p, r.1)
 one_or_other files failed m p papers routes (Unread paper.Scen) t s r = absurd r
 one_or_other files failed m p papers routes (Scen f) t s r = absurd r
 one_or_other files failed m p papers routes (BadTask i why) t s r = absurd r
@@ -90,7 +91,7 @@ papers_are : (p q : Papers) → p.map ≡ q.map → p.plan ≡ q.plan → p ≡ 
 papers_are p q map plan = ap (λ (m : List ℕ). let r : Papers = record { map = m; plan = p.plan } in r) map ∙ ap (λ (t : List ℕ). let r : Papers = record { map = q.map; plan = t } in r) plan
 
 -- words name one map and one plan
-same_names : (words : List (List ℕ)) (a b : Command) (m p m2 p2 : List ℕ) → IsCommandOn words a m p → IsCommandOn words b m2 p2 → (m ≡ m2) × (p ≡ p2)
+pub same_names : (words : List (List ℕ)) (a b : Command) (m p m2 p2 : List ℕ) → IsCommandOn words a m p → IsCommandOn words b m2 p2 → (m ≡ m2) × (p ≡ p2)
 same_names words a b m p m2 p2 x y = named a b x.papers_are y.papers_are (one_command words a b x.words_are y.words_are)
   where
     named : (a b : Command) → NamesPapers a m p → NamesPapers b m2 p2 → AreOne a b → (m ≡ m2) × (p ≡ p2)
@@ -144,7 +145,7 @@ names_or_plans (Run k l j i q) (Gen k2 f2) m p m2 s2 n h x y e = y
 names_or_plans (Run k l j i q) (Plan k2 l2 i2 g2) m p m2 s2 n h x y e = e
 
 -- words ask for one plan, and its files have one content
-same_asked : (files : Files) (words : List (List ℕ)) (a b : Command) (papers others : Papers) (rs qs : List (List PlannedVisit)) → files.tells → IsAsked files words a papers rs → IsAsked files words b others qs → (papers ≡ others) × (rs ≡ qs)
+pub same_asked : (files : Files) (words : List (List ℕ)) (a b : Command) (papers others : Papers) (rs qs : List (List PlannedVisit)) → files.tells → IsAsked files words a papers rs → IsAsked files words b others qs → (papers ≡ others) × (rs ≡ qs)
 same_asked files words a b papers others rs qs t x y =
     let names = same_names words a b x.map_name x.plan_name y.map_name y.plan_name x.words_are y.words_are in
     let s = x.sound in
@@ -154,8 +155,8 @@ same_asked files words a b papers others rs qs t x y =
     let plans = same_plan files x.map_name x.plan_name s.has.grid r.has.grid s.has.plan r.has.plan t s.has.papers r.has.papers in
     (papers_are papers others (s.map_is ∙ maps ∙ sym r.map_is) (s.plan_is ∙ texts ∙ sym r.plan_is), s.has.visits ∙ ap (λ (ps : List (List Cell)). visits_of ps) plans ∙ sym r.has.visits)
 
-asked_or_named : (files : Files) (failed : Type 0) (words : List (List ℕ)) (command : Command) (papers : Papers) (routes : List (List PlannedVisit)) (fault : Fault) → files.tells → IsAsked files words command papers routes
-    → IsPlanCause files failed words fault ⊎ IsTaskCause files failed words fault → failed
+asked_or_named : (files : Files) (failed : List ℕ → Type 0) (words : List (List ℕ)) (command : Command) (papers : Papers) (routes : List (List PlannedVisit)) (fault : Fault) → files.tells → IsAsked files words command papers routes
+    → IsPlanCause files failed words fault ⊎ IsTaskCause files failed words fault → (name : List ℕ) × failed name
 asked_or_named files failed words command papers routes fault t a (inr (m, s, n, h, asks, unplanned)) =
     absurd (names_or_plans command asks.command a.map_name a.plan_name m s n h a.words_are.papers_are asks.plans (one_command words command asks.command a.words_are.words_are asks.words_are))
 asked_or_named files failed words command papers routes fault t a (inl (other, map_name, plan_name, named, refused)) =
@@ -163,7 +164,7 @@ asked_or_named files failed words command papers routes fault t a (inl (other, m
     one_or_other files failed map_name plan_name papers routes fault t
     (subst (λ (m : List ℕ). IsSoundPaper files m plan_name papers routes) names.0 (subst (λ (p : List ℕ). IsSoundPaper files a.map_name p papers routes) names.1 a.sound)) refused
 
-pub sound_or_refused : (files : Files) (failed : Type 0) (words : List (List ℕ)) (command : Command) (papers : Papers) (routes : List (List PlannedVisit)) (fault : Fault) → files.tells → IsAsked files words command papers routes → IsCause files failed words fault → failed
+pub sound_or_refused : (files : Files) (failed : List ℕ → Type 0) (words : List (List ℕ)) (command : Command) (papers : Papers) (routes : List (List PlannedVisit)) (fault : Fault) → files.tells → IsAsked files words command papers routes → IsCause files failed words fault → (name : List ℕ) × failed name
 sound_or_refused files failed words command papers routes Usage t a c = absurd (c command a.words_are.words_are)
 sound_or_refused files failed words command papers routes (Long which n) t a c = asked_or_named files failed words command papers routes (Long which n) t a c
 sound_or_refused files failed words command papers routes (Unread which) t a c = asked_or_named files failed words command papers routes (Unread which) t a c
@@ -178,16 +179,16 @@ sound_or_refused files failed words command papers routes (NoPath i) t a c = ask
 -- ---- how a call ends
 
 -- where the plan is sound and the shelf did not fail, the text that is due ends the call well
-due_is_done : (files : Files) (failed : Type 0) (words : List (List ℕ)) (command : Command) (papers : Papers) (routes : List (List PlannedVisit)) (end : Status) (text : List ℕ) → files.tells → IsAsked files words command papers routes → (failed → ⊥) → IsDue files failed words end text → end ≡ Done
+due_is_done : (files : Files) (failed : List ℕ → Type 0) (words : List (List ℕ)) (command : Command) (papers : Papers) (routes : List (List PlannedVisit)) (end : Status) (text : List ℕ) → files.tells → IsAsked files words command papers routes → ((name : List ℕ) → failed name → ⊥) → IsDue files failed words end text → end ≡ Done
 due_is_done files failed words command papers routes end text t a fine (a_check done other others qs checks asked is) = done
 due_is_done files failed words command papers routes end text t a fine (a_made_text done made) = done
-due_is_done files failed words command papers routes end text t a fine (a_refusal fault cause e is) = absurd (fine (sound_or_refused files failed words command papers routes fault t a cause))
+due_is_done files failed words command papers routes end text t a fine (a_refusal fault cause e is) = let f = sound_or_refused files failed words command papers routes fault t a cause in absurd (fine f.0 f.1)
 
 -- what a status that is no other is
-not_done : (call : Call) (command : Command) (papers : Papers) (routes : List (List PlannedVisit)) (end : Status) → call.files.tells → IsAsked call.files call.words command papers routes → (call.shelf_failed → ⊥) → SaysText call end → end ≡ Done
+not_done : (call : Call) (command : Command) (papers : Papers) (routes : List (List PlannedVisit)) (end : Status) → call.files.tells → IsAsked call.files call.words command papers routes → ((name : List ℕ) → call.shelf_failed name → ⊥) → SaysText call end → end ≡ Done
 not_done call command papers routes end t a fine (text, due, sends) = due_is_done call.files call.shelf_failed call.words command papers routes end text t a fine due
 
-text_smooth : (call : Call) (command : Command) (papers : Papers) (routes : List (List PlannedVisit)) (end : Status) → call.files.tells → IsAsked call.files call.words command papers routes → (call.shelf_failed → ⊥) → (call.talk.line.failed → ⊥) → TextEnds call end → IsSmooth command end
+text_smooth : (call : Call) (command : Command) (papers : Papers) (routes : List (List PlannedVisit)) (end : Status) → call.files.tells → IsAsked call.files call.words command papers routes → ((name : List ℕ) → call.shelf_failed name → ⊥) → (call.talk.station_failed → ⊥) → TextEnds call end → IsSmooth command end
 text_smooth call command papers routes Done t a fine sent l = tt
 text_smooth call command papers routes status.Usage t a fine sent l = let e : status.Usage ≡ Done = not_done call command papers routes status.Usage t a fine l in cc
 text_smooth call command papers routes Input t a fine sent l = let e : Input ≡ Done = not_done call command papers routes Input t a fine l in cc
@@ -201,8 +202,8 @@ text_smooth call command papers routes Limit t a fine sent l = absurd l
 pub routes_are : (files : Files) (map_name plan_name : List ℕ) (papers : Papers) (routes : List (List PlannedVisit)) → IsSoundPaper files map_name plan_name papers routes → AreRoutes routes
 routes_are files map_name plan_name papers routes s = record { grid = s.has.grid; plan = s.has.plan; accepted = s.has.accepted; visits = s.has.visits }
 
-run_smooth : (call : Call) (command : Command) (papers : Papers) (routes : List (List PlannedVisit)) (end : Status) → call.files.tells → IsAsked call.files call.words command papers routes → MayOpen command routes papers call.talk.line.tells call.talk.line.old.seen
-    → (call.talk.source_failed → ⊥) → (call.talk.line.failed → ⊥) → (r : IsRunCall call end) → RunEnds r.routes r.papers (run_settings r.budget r.quiet) call.talk end → IsSmooth command end
+run_smooth : (call : Call) (command : Command) (papers : Papers) (routes : List (List PlannedVisit)) (end : Status) → call.files.tells → IsAsked call.files call.words command papers routes → MayOpen command routes papers call.talk.station.tells call.talk.station.old.seen
+    → (call.talk.source_failed → ⊥) → (call.talk.station_failed → ⊥) → (r : IsRunCall call end) → RunEnds r.routes r.papers (run_settings r.budget r.quiet) call.talk end → IsSmooth command end
 run_smooth call command papers routes Done t a may taken sent r e = tt
 run_smooth call command papers routes status.Usage t a may taken sent r e = absurd e
 run_smooth call command papers routes Input t a may taken sent r e = absurd e
@@ -211,8 +212,8 @@ run_smooth call (Plan m s n h) papers routes Journal t a may taken sent r e = ab
 run_smooth call (Check m p) papers routes Journal t a may taken sent r e = absurd (check_is_no_run call.files call.words papers r.papers routes r.routes (Check m p) r.command r.journal r.budget r.quiet tt r.runs a r.asked)
 run_smooth call (Run m p j n q) papers routes Journal t a may taken sent r e =
     let same = same_asked call.files call.words (Run m p j n q) r.command papers r.papers routes r.routes t a r.asked in
-    absurd (not_refused r.routes (routes_are call.files r.asked.map_name r.asked.plan_name r.papers r.routes r.asked.sound) r.papers call.talk.line.old.seen e.1.1.image e.1.0 (e.1.1.means may.0) e.1.1.text_is may.1.0
-    (subst (λ (ps : Papers). StandsFor r.routes ps call.talk.line.old.seen may.1.0) same.0 (subst (λ (rs : List (List PlannedVisit)). StandsFor rs papers call.talk.line.old.seen may.1.0) same.1 may.1.1)))
+    absurd (not_refused r.routes (routes_are call.files r.asked.map_name r.asked.plan_name r.papers r.routes r.asked.sound) r.papers call.talk.station.old.seen e.1.1.image e.1.0 (e.1.1.means may.0) e.1.1.text_is may.1.0
+    (subst (λ (ps : Papers). StandsFor r.routes ps call.talk.station.old.seen may.1.0) same.0 (subst (λ (rs : List (List PlannedVisit)). StandsFor rs papers call.talk.station.old.seen may.1.0) same.1 may.1.1)))
 run_smooth call command papers routes ReadFault t a may taken sent r e = absurd (taken e.0)
 run_smooth call command papers routes StationFault t a may taken sent r e = absurd (sent e.0)
 run_smooth call command papers routes Memory t a may taken sent r e = tt
@@ -222,15 +223,15 @@ run_smooth call (Check m p) papers routes Limit t a may taken sent r e = absurd 
 run_smooth call (Run m p j n q) papers routes Limit t a may taken sent r e = tt
 
 -- where a command is asked of a sound plan and nothing fails, the call ends well, at the limit of input, or for want of memory
-pub ends_smooth : (call : Call) (command : Command) (papers : Papers) (routes : List (List PlannedVisit)) (end : Status) → call.files.tells → IsAsked call.files call.words command papers routes → MayOpen command routes papers call.talk.line.tells call.talk.line.old.seen
-    → (call.shelf_failed → ⊥) → (call.talk.source_failed → ⊥) → (call.talk.line.failed → ⊥) → EndsAs call end → IsSmooth command end
+pub ends_smooth : (call : Call) (command : Command) (papers : Papers) (routes : List (List PlannedVisit)) (end : Status) → call.files.tells → IsAsked call.files call.words command papers routes → MayOpen command routes papers call.talk.station.tells call.talk.station.old.seen
+    → ((name : List ℕ) → call.shelf_failed name → ⊥) → (call.talk.source_failed → ⊥) → (call.talk.station_failed → ⊥) → EndsAs call end → IsSmooth command end
 ends_smooth call command papers routes end t a may fine taken sent (inl l) = text_smooth call command papers routes end t a fine sent l.ends
 ends_smooth call command papers routes end t a may fine taken sent (inr r) = run_smooth call command papers routes end t a may taken sent r r.ends
 
 -- ---- one text that is said
 
 -- the whole text that is due ends the call with its status
-said_text : (call : Call) (end : Status) (text : List ℕ) → IsText call end text → Sends (sent_on call.talk.line) text → TextEnds call end
+said_text : (call : Call) (end : Status) (text : List ℕ) → IsText call end text → Sends (sent_over call.talk.station) text → TextEnds call end
 said_text call end text (a_check done command papers routes checks asked is) sends = subst (TextEnds call) (sym done) (text, a_check refl command papers routes checks asked is, sends)
 said_text call end text (a_made_text done made) sends = subst (TextEnds call) (sym done) (text, a_made_text refl made, sends)
 said_text call end text (a_refusal reason cause e is) sends = subst (TextEnds call) (sym e) (of_fault reason cause is)
@@ -247,6 +248,6 @@ said_text call end text (a_refusal reason cause e is) sends = subst (TextEnds ca
     of_fault (BadTask i why) k l = (text, a_refusal (BadTask i why) k refl l, sends)
     of_fault (NoPath i) k l = (text, a_refusal (NoPath i) k refl l, sends)
 
-pub say_ends : (call : Call) (status end : Status) (text bytes : List ℕ) → IsText call status text → bytes ≡ text → EndsWith status bytes (sent_on call.talk.line) call.talk.line.failed end → TextEnds call end
-say_ends call status end text bytes due e (inl (same, sends)) = subst (TextEnds call) (sym same) (said_text call status text due (λ told. sends told ∙ ap (λ (t : List ℕ). call.talk.line.old.seen.sent ++ t) e))
-say_ends call status end text bytes due e (inr (same, failed, part)) = subst (TextEnds call) (sym same) (failed, (status, text, due, λ told. let p = part told in (p.0, p.1 ∙ ap (λ (t : List ℕ). call.talk.line.old.seen.sent ++ take p.0 t) e)))
+pub say_ends : (call : Call) (status end : Status) (text bytes : List ℕ) → IsText call status text → bytes ≡ text → EndsWith status bytes (sent_over call.talk.station) call.talk.station_failed end → TextEnds call end
+say_ends call status end text bytes due e (inl (same, sends)) = subst (TextEnds call) (sym same) (said_text call status text due (λ told. sends told ∙ ap (λ (t : List ℕ). call.talk.station.old.seen.sent ++ t) e))
+say_ends call status end text bytes due e (inr (same, failed, part)) = subst (TextEnds call) (sym same) (failed, (status, text, due, λ told. let p = part told in (p.0, p.1 ∙ ap (λ (t : List ℕ). call.talk.station.old.seen.sent ++ take p.0 t) e)))

@@ -7,15 +7,12 @@ use Rattle.std.proofs.lemmas.List.Elements.{Contains-append_cases}
 use Rattle.std.proofs.lemmas.Option.{slice_get-get_or, slice_get_within, get_or_from_slice_get}
 use Rattle.fleet_base.specs.declared.geometry.Visit.{Visit}
 use Rattle.fleet_base.specs.declared.geometry.PlannedVisit.{PlannedVisit}
-use Rattle.fleet_base.specs.declared.report.Report.{Report}
-use Rattle.fleet_base.specs.declared.report.Report.TheVariants.{Arrive, Delay}
 use Rattle.fleet_base.specs.declared.report.Why.TheVariants.{Line, Full}
-use Rattle.fleet_base.specs.declared.order.PairId.{PairId}
 use Rattle.fleet_base.specs.Plan.{AreRoutes}
-use Rattle.fleet_base.specs.Order.{Graph, graph_of}
+use Rattle.fleet_base.specs.Order.{graph_of}
 use Rattle.fleet_base.specs.State.{FleetState}
 use Rattle.fleet_base.specs.Rules.{IsFleetState}
-use Rattle.fleet_base.specs.Bytes.{IsPrefix, whole_lines}
+use Rattle.fleet_base.specs.Bytes.{IsPrefix, whole_lines, text_of_lines}
 use Rattle.fleet_base.specs.World.{Mark, Event, Marked, Begun, Ended, release_line}
 use Rattle.fleet_base.proofs.Members.{in_none, in_one, in_cons, head_in, tail_in}
 use Rattle.fleet_base.proofs.AllVisits.{from_map}
@@ -24,10 +21,10 @@ use Rattle.report_text.specs.declared.answer.Answer.{Answer}
 use Rattle.report_text.specs.declared.answer.Answer.TheVariants.{Ready, Done, Known, Refused}
 use Rattle.report_text.specs.AnswerLine.{answer_line}
 use Rattle.fleet_core.specs.declared.entry.Entry.{Entry}
-use Rattle.fleet_core.specs.Step.{Step, heard_of}
+use Rattle.fleet_core.proofs.Counts.{step_counts}
 use Rattle.journal_frame.specs.Entries.{Accepted}
-use Rattle.fleet_serve.specs.declared.outcome.Settings.{Settings}
-use Rattle.fleet_serve.specs.Lines.{release_lines, entry_lines, pending, greeting_of, text_of}
+use Rattle.fleet_serve.specs.declared.session.Settings.{Settings}
+use Rattle.fleet_serve.specs.Lines.{release_lines, entry_lines, pending, greeting_of}
 use Rattle.fleet_serve.specs.Turns.{Point, TurnMade, Answers, IsTurn, malformed, known, refused, full, entered, AreTurns, state_after, answers_of}
 use Rattle.fleet_cli.specs.Lives.{IsEnding, SessionMade, IsMarkOf, early, kept, as_kept, entry_of, entries_of, last_sent, sent_of, first_mark, MayBegin, AreMarksOf, IsLife, IsAnswered, IsEverAnswered, HoldsAs, IsStateOf}
 use Rattle.fleet_serve.proofs.TurnLaws.{turn_keeps}
@@ -35,13 +32,6 @@ use Rattle.fleet_serve.proofs.Telling.{chosen_are, choice_is_no_ok}
 use Rattle.fleet_cli.proofs.LivesMarks.{ending_plain, lines_at, lines_plain, begin_good}
 
 -- ---- counts
-
-heard_counts : (x : FleetState) (report : Report) → (heard_of x report).count ≡ x.count + 1
-heard_counts x (Arrive i k tick) = refl
-heard_counts x (Delay i k extra tick) = refl
-
-step_counts : (g : Graph) (x : FleetState) (report : Report) (switched : List PairId) (releases : List Visit) (x' : FleetState) → Step g x report switched releases x' → x'.count ≡ x.count + 1
-step_counts g x report switched releases x' step = ap (λ (y : FleetState). y.count) step.state.others ∙ heard_counts x report
 
 -- a turn makes an entry and counts one, or changes nothing
 data Counts (from : Point) (turn : TurnMade) : Type 0 where
@@ -194,7 +184,7 @@ turn_state routes settings from (first ∷ turns) s follow turn h =
 
 -- an ok line that was sent is among the answers
 ok_sent : (routes : List (List PlannedVisit)) (s : SessionMade) → AreTurns (graph_of routes) routes s.settings s.start s.turns → (made : ℕ) (ending : List (List ℕ)) → IsEnding ending
-    → (sent : List ℕ) → IsPrefix sent (text_of (lines_at routes s made ending)) → (n : ℕ) → Contains (whole_lines sent) (answer_line (Done n)) → Contains (answers_of (take made s.turns)) (answer_line (Done n))
+    → (sent : List ℕ) → IsPrefix sent (text_of_lines (lines_at routes s made ending)) → (n : ℕ) → Contains (whole_lines sent) (answer_line (Done n)) → Contains (answers_of (take made s.turns)) (answer_line (Done n))
 ok_sent routes s follow made ending is sent (rest, front) n h =
     let lines = lines_at routes s made ending in
     outer (Contains-append_cases (greeting_of routes s.start.state) (answers_of (take made s.turns) ++ ending) (answer_line (Done n)) (whole_lines_sent lines (all_of 14 lines (lines_plain routes s follow made ending is)) sent rest front (answer_line (Done n)) h))
@@ -207,7 +197,7 @@ ok_sent routes s follow made ending is sent (rest, front) n h =
     outer (inl k) = absurd (greeting_no_ok routes s.start.state n k)
     outer (inr k) = inner (Contains-append_cases (answers_of (take made s.turns)) ending (answer_line (Done n)) k)
 
-early_no_ok : (ending : List (List ℕ)) → IsEnding ending → (sent : List ℕ) → IsPrefix sent (text_of ending) → (n : ℕ) → Contains (whole_lines sent) (answer_line (Done n)) → ⊥
+early_no_ok : (ending : List (List ℕ)) → IsEnding ending → (sent : List ℕ) → IsPrefix sent (text_of_lines ending) → (n : ℕ) → Contains (whole_lines sent) (answer_line (Done n)) → ⊥
 early_no_ok ending is sent (rest, front) n h = ending_no_ok ending is n (whole_lines_sent ending (all_of 14 ending (ending_plain ending is)) sent rest front (answer_line (Done n)) h)
 
 -- the entries of a state are as many as it counts, and hold every one that was answered
@@ -227,7 +217,7 @@ holds_behind held more k accepted at =
 
 -- the answered accepted of this session is among those of its turns up to a mark
 answered_here : (routes : List (List PlannedVisit)) (s : SessionMade) → IsFleetState (graph_of routes) s.start.state → AreTurns (graph_of routes) routes s.settings s.start s.turns → s.start.state.count ≡ length s.held
-    → (made : ℕ) (ending : List (List ℕ)) → IsEnding ending → IsPrefix (sent_of s) (text_of (lines_at routes s made ending)) → (n : ℕ) (accepted : Accepted) → IsAnswered s n accepted → HoldsAs (s.held ++ entries_of (take made s.turns)) n accepted
+    → (made : ℕ) (ending : List (List ℕ)) → IsEnding ending → IsPrefix (sent_of s) (text_of_lines (lines_at routes s made ending)) → (n : ℕ) (accepted : Accepted) → IsAnswered s n accepted → HoldsAs (s.held ++ entries_of (take made s.turns)) n accepted
 answered_here routes s state follow counted made ending is front n accepted a =
     let small : n < 2 ^ 64 = omega (arith, a.number, (turn_state routes s.settings s.start s.turns state follow a.turn a.made).count) in
     let among = turns_ok routes s.settings s.start s.turns made n state follow small (ok_sent routes s follow made ending is (sent_of s) front n a.sent) in

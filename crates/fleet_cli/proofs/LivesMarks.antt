@@ -8,13 +8,13 @@ use Rattle.fleet_base.specs.Plan.{AreRoutes, IsOnRoute}
 use Rattle.fleet_base.specs.Order.{graph_of}
 use Rattle.fleet_base.specs.State.{FleetState, IsReleased, released_count}
 use Rattle.fleet_base.specs.Rules.{IsFleetState}
-use Rattle.fleet_base.specs.Bytes.{IsPrefix}
+use Rattle.fleet_base.specs.Bytes.{IsPrefix, text_of_lines}
 use Rattle.fleet_base.specs.World.{Mark, IsTold, IsEverTold, release_text}
 use Rattle.fleet_base.proofs.Members.{in_none, in_one, in_cons}
 use Rattle.fleet_base.proofs.FirstState.{first_state_ahead_keeps}
 use Rattle.fleet_base.proofs.LineLaws.{AtLeast, AtLeast-append, AtLeast-less, AtLeast_by, all_of, whole_lines_sent}
 use Rattle.journal_frame.specs.Entries.{Accepted}
-use Rattle.fleet_serve.specs.Lines.{text_of, greeting_of}
+use Rattle.fleet_serve.specs.Lines.{greeting_of}
 use Rattle.fleet_serve.specs.Turns.{AreTurns, state_after, answers_of}
 use Rattle.fleet_cli.specs.Lives.{IsFaultLine, IsEnding, SessionMade, IsMarkOf, early, kept, sent_of, MayBegin, IsLife, texts_of}
 use Rattle.fleet_serve.proofs.TurnLaws.{turns_keep, turns-take}
@@ -65,7 +65,7 @@ told_later : (routes : List (List PlannedVisit)) (texts : List (List ℕ)) (x x'
 told_later routes texts x x' grows told v on h = omega (arith, told v on h, grows v.robot)
 
 -- a front of plain lines that tell what is released tells what is released
-front_told : (routes : List (List PlannedVisit)) (x : FleetState) (lines : List (List ℕ)) (sent : List ℕ) → TellReleased routes x lines → Plain lines → IsPrefix sent (text_of lines) → (v : Visit) → IsOnRoute routes v → IsTold sent v → IsReleased x v
+front_told : (routes : List (List PlannedVisit)) (x : FleetState) (lines : List (List ℕ)) (sent : List ℕ) → TellReleased routes x lines → Plain lines → IsPrefix sent (text_of_lines lines) → (v : Visit) → IsOnRoute routes v → IsTold sent v → IsReleased x v
 front_told routes x lines sent tells plain front v on told = tells (release_text v told.0) (whole_lines_sent lines (all_of 14 lines plain) sent front.0 front.1 (release_text v told.0) told.1) v told.0 on refl
 
 -- ---- marks

@@ -35,14 +35,14 @@ use Rattle.fleet_cli.specs.Generating.{IsFleetText}
 use Rattle.fleet_cli.specs.Planning.{HasTasks, IsPlanFor, IsUnplanned}
 use Rattle.fleet_cli.specs.Causes.{IsPlanCause, IsTaskCause, IsCause}
 use Rattle.fleet_cli.specs.Due.{IsAsked, IsMade, a_fleet, a_plan, IsDue, a_check, a_made_text, a_refusal}
-use Rattle.fleet_cli.specs.Runs.{sent_on}
+use Rattle.fleet_serve.specs.Spans.{sent_over}
 use Rattle.fleet_cli.specs.Ends.{Call, SaysText, TextEnds, EndsAs, SendsIfMemory}
 use Rattle.fleet_cli.proofs.Exclusion.{same_bytes, short_or_long, same_map, names_or_generates, names_or_plans}
 
 -- ---- one of each
 
 -- two files that are told are one map and one scenario
-same_tasks : (files : Files) (m s : List ℕ) (g g2 : OccupancyGrid) (ts us : List Task) → files.tells → HasTasks files m s g ts → HasTasks files m s g2 us → (g ≡ g2) × (ts ≡ us)
+pub same_tasks : (files : Files) (m s : List ℕ) (g g2 : OccupancyGrid) (ts us : List Task) → files.tells → HasTasks files m s g ts → HasTasks files m s g2 us → (g ≡ g2) × (ts ≡ us)
 same_tasks files m s g g2 ts us t x y =
     (same_map files m g g2 t x.on y.on, one_scenario x.bytes ts us x.text (subst (λ (b : List ℕ). IsScenText b us) (sym (same_bytes files s x.bytes y.bytes t x.paper y.paper)) y.text))
 
@@ -55,7 +55,7 @@ same_seeds (Gen c d) (Run m2 p2 j2 n2 q2) k k2 f f2 x y e = absurd y
 same_seeds (Gen c d) (Plan m2 s2 n2 h2) k k2 f f2 x y e = absurd y
 same_seeds (Gen c d) (Gen c2 d2) k k2 f f2 x y e = (sym x.0 ∙ e.0 ∙ y.0, sym x.1 ∙ e.1 ∙ y.1)
 
-same_plans : (a b : Command) (m m2 s s2 : List ℕ) (n n2 h h2 : ℕ) → PlansWith a m s n h → PlansWith b m2 s2 n2 h2 → AreOne a b → (m ≡ m2) × (s ≡ s2) × (n ≡ n2) × (h ≡ h2)
+pub same_plans : (a b : Command) (m m2 s s2 : List ℕ) (n n2 h h2 : ℕ) → PlansWith a m s n h → PlansWith b m2 s2 n2 h2 → AreOne a b → (m ≡ m2) × (s ≡ s2) × (n ≡ n2) × (h ≡ h2)
 same_plans (Check k l) b m m2 s s2 n n2 h h2 x y e = absurd x
 same_plans (Run k l j i q) b m m2 s s2 n n2 h h2 x y e = absurd x
 same_plans (Gen k f) b m m2 s s2 n n2 h h2 x y e = absurd x
@@ -77,14 +77,14 @@ plans_or_generates (Plan c l i g) (Plan c2 l2 i2 g2) m s n h k f x y e = y
 -- ---- no refusal
 
 -- of the same files, a plan and a refusal are both had only where the shelf failed
-plan_or_none : (files : Files) (failed : Type 0) (m s : List ℕ) (n h : ℕ) (text : List ℕ) (fault : Fault) → files.tells → IsPlanFor files m s n h text → IsUnplanned files failed m s n h fault → failed
+plan_or_none : (files : Files) (failed : List ℕ → Type 0) (m s : List ℕ) (n h : ℕ) (text : List ℕ) (fault : Fault) → files.tells → IsPlanFor files m s n h text → IsUnplanned files failed m s n h fault → (name : List ℕ) × failed name
 plan_or_none files failed m s n h text Usage t p r = absurd r
 plan_or_none files failed m s n h text (Long paper.Map k) t p r = absurd (short_or_long files m p.has.on.bytes k t p.has.on.paper r)
 plan_or_none files failed m s n h text (Long paper.Plan k) t p r = absurd r
 plan_or_none files failed m s n h text (Long paper.Scen k) t p r = absurd (short_or_long files s p.has.bytes k t p.has.paper r.1)
-plan_or_none files failed m s n h text (Unread paper.Map) t p r = r
+plan_or_none files failed m s n h text (Unread paper.Map) t p r = (m, r)
 plan_or_none files failed m s n h text (Unread paper.Plan) t p r = absurd r
-plan_or_none files failed m s n h text (Unread paper.Scen) t p r = r.1
+plan_or_none files failed m s n h text (Unread paper.Scen) t p r = (s, r.1)
 plan_or_none files failed m s n h text (Map f) t p r =
     let same = same_bytes files m p.has.on.bytes r.0 t p.has.on.paper r.1 in
     absurd (no_fault p.has.on.bytes p.grid f.line f.kind p.has.on.text (subst (λ (b : List ℕ). IsMapFault (file_lines b) f.line f.kind) (sym same) r.2))
@@ -104,7 +104,7 @@ plan_or_none files failed m s n h text (NoPath i) t p r =
     absurd (planned_or_without p.grid h (take n p.tasks) p.plan i p.planned without)
 
 -- what words ask for is not refused by the files, unless the shelf failed
-made_or_caused : (files : Files) (failed : Type 0) (words : List (List ℕ)) (text : List ℕ) (fault : Fault) → files.tells → IsMade files words text → IsPlanCause files failed words fault ⊎ IsTaskCause files failed words fault → failed
+made_or_caused : (files : Files) (failed : List ℕ → Type 0) (words : List (List ℕ)) (text : List ℕ) (fault : Fault) → files.tells → IsMade files words text → IsPlanCause files failed words fault ⊎ IsTaskCause files failed words fault → (name : List ℕ) × failed name
 made_or_caused files failed words text fault t (a_fleet k f asks is) (inl (command, m, p, on, refused)) =
     absurd (names_or_generates command asks.command m p k f on.papers_are asks.generates (one_command words command asks.command on.words_are asks.words_are))
 made_or_caused files failed words text fault t (a_fleet k f asks is) (inr (m, s, n, h, plans, unplanned)) =
@@ -124,7 +124,7 @@ made_or_usage : (files : Files) (words : List (List ℕ)) (text : List ℕ) → 
 made_or_usage files words text (a_fleet k f asks is) none = none asks.command asks.words_are
 made_or_usage files words text (a_plan m s n h asks is) none = none asks.command asks.words_are
 
-pub made_or_refused : (files : Files) (failed : Type 0) (words : List (List ℕ)) (text : List ℕ) (fault : Fault) → files.tells → IsMade files words text → IsCause files failed words fault → failed
+pub made_or_refused : (files : Files) (failed : List ℕ → Type 0) (words : List (List ℕ)) (text : List ℕ) (fault : Fault) → files.tells → IsMade files words text → IsCause files failed words fault → (name : List ℕ) × failed name
 made_or_refused files failed words text Usage t made c = absurd (made_or_usage files words text made c)
 made_or_refused files failed words text (Long which n) t made c = made_or_caused files failed words text (Long which n) t made c
 made_or_refused files failed words text (Unread which) t made c = made_or_caused files failed words text (Unread which) t made c
@@ -165,24 +165,24 @@ one_text files words text other t (a_plan m s n h asks is) (a_plan m2 s2 n2 h2 a
 -- ---- how a call ends
 
 -- words that ask for a text ask for no plan that is checked or run
-asked_or_made : (files : Files) (words : List (List ℕ)) (command : Command) (papers : Papers) (routes : List (List PlannedVisit)) (text : List ℕ) → IsAsked files words command papers routes → IsMade files words text → ⊥
+pub asked_or_made : (files : Files) (words : List (List ℕ)) (command : Command) (papers : Papers) (routes : List (List PlannedVisit)) (text : List ℕ) → IsAsked files words command papers routes → IsMade files words text → ⊥
 asked_or_made files words command papers routes text a (a_fleet k f asks is) =
     names_or_generates command asks.command a.map_name a.plan_name k f a.words_are.papers_are asks.generates (one_command words command asks.command a.words_are.words_are asks.words_are)
 asked_or_made files words command papers routes text a (a_plan m s n h asks is) =
     names_or_plans command asks.command a.map_name a.plan_name m s n h a.words_are.papers_are asks.plans (one_command words command asks.command a.words_are.words_are asks.words_are)
 
 -- where the shelf did not fail, the text that is due is the one that the words ask for
-made_is_due : (files : Files) (failed : Type 0) (words : List (List ℕ)) (text other : List ℕ) (end : Status) → files.tells → IsMade files words text → (failed → ⊥) → IsDue files failed words end other → (end ≡ Done) × (other ≡ text)
+made_is_due : (files : Files) (failed : List ℕ → Type 0) (words : List (List ℕ)) (text other : List ℕ) (end : Status) → files.tells → IsMade files words text → ((name : List ℕ) → failed name → ⊥) → IsDue files failed words end other → (end ≡ Done) × (other ≡ text)
 made_is_due files failed words text other end t made fine (a_check done command papers routes checks asked is) = absurd (asked_or_made files words command papers routes text asked made)
 made_is_due files failed words text other end t made fine (a_made_text done also) = (done, one_text files words other text t also made)
-made_is_due files failed words text other end t made fine (a_refusal fault cause e is) = absurd (fine (made_or_refused files failed words text fault t made cause))
+made_is_due files failed words text other end t made fine (a_refusal fault cause e is) = let f = made_or_refused files failed words text fault t made cause in absurd (fine f.0 f.1)
 
-made_says : (call : Call) (text : List ℕ) (end : Status) → call.files.tells → IsMade call.files call.words text → (call.shelf_failed → ⊥) → SaysText call end → (end ≡ Done) × Sends (sent_on call.talk.line) text
+made_says : (call : Call) (text : List ℕ) (end : Status) → call.files.tells → IsMade call.files call.words text → ((name : List ℕ) → call.shelf_failed name → ⊥) → SaysText call end → (end ≡ Done) × Sends (sent_over call.talk.station) text
 made_says call text end t made fine (other, due, sends) =
     let is = made_is_due call.files call.shelf_failed call.words text other end t made fine due in
-    (is.0, λ told. sends told ∙ ap (λ (x : List ℕ). call.talk.line.old.seen.sent ++ x) is.1)
+    (is.0, λ told. sends told ∙ ap (λ (x : List ℕ). call.talk.station.old.seen.sent ++ x) is.1)
 
-made_ends : (call : Call) (text : List ℕ) (end : Status) → call.files.tells → IsMade call.files call.words text → (call.shelf_failed → ⊥) → (call.talk.line.failed → ⊥) → TextEnds call end → SendsIfMemory call.talk.line text end
+made_ends : (call : Call) (text : List ℕ) (end : Status) → call.files.tells → IsMade call.files call.words text → ((name : List ℕ) → call.shelf_failed name → ⊥) → (call.talk.station_failed → ⊥) → TextEnds call end → SendsIfMemory call.talk.station text end
 made_ends call text Done t made fine sent l = inl (made_says call text Done t made fine l)
 made_ends call text status.Usage t made fine sent l = inl (made_says call text status.Usage t made fine l)
 made_ends call text Input t made fine sent l = inl (made_says call text Input t made fine l)
@@ -192,6 +192,6 @@ made_ends call text StationFault t made fine sent l = absurd (sent l.0)
 made_ends call text Memory t made fine sent l = inr refl
 made_ends call text Limit t made fine sent l = absurd l
 
-pub made_sent : (call : Call) (text : List ℕ) (end : Status) → call.files.tells → IsMade call.files call.words text → (call.shelf_failed → ⊥) → (call.talk.line.failed → ⊥) → EndsAs call end → SendsIfMemory call.talk.line text end
+pub made_sent : (call : Call) (text : List ℕ) (end : Status) → call.files.tells → IsMade call.files call.words text → ((name : List ℕ) → call.shelf_failed name → ⊥) → (call.talk.station_failed → ⊥) → EndsAs call end → SendsIfMemory call.talk.station text end
 made_sent call text end t made fine sent (inl l) = made_ends call text end t made fine sent l.ends
 made_sent call text end t made fine sent (inr r) = absurd (asked_or_made call.files call.words r.command r.papers r.routes text r.asked made)

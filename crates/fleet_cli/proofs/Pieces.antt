@@ -6,24 +6,11 @@ use Rattle.std.proofs.lemmas.List.Sums.{sum_by_more_le, sum_by-append}
 use Rattle.fleet_base.specs.declared.geometry.PlannedVisit.{PlannedVisit}
 use Rattle.fleet_base.specs.Lists.{row_of}
 use Rattle.fleet_base.specs.Plan.{AreRoutes, visits_of, last_of}
-use Rattle.fleet_base.specs.Bytes.{field}
+use Rattle.fleet_base.specs.Bytes.{field, fields}
 use Rattle.fleet_base.proofs.GraphLaws.{route_is_some}
 use Rattle.fleet_cli.specs.declared.papers.Sound.{Sound}
 use Rattle.fleet_cli.specs.Fetching.{Counts}
-use Rattle.fleet_cli.specs.Lines.{fields, sound_line}
-
--- one number more
-fields-append : (ns : List ℕ) (n : ℕ) → fields (ns ++ n ∷ []) ≡ fields ns ++ field n
-fields-append [] n = append-nil (field n)
-fields-append (m ∷ ns) n = ap (λ (t : List ℕ). field m ++ t) (fields-append ns n) ∙ sym (append_assoc (field m) (fields ns) (field n))
-
-pub fields_more : (ns : List ℕ) (i d : ℕ) → i < length ns → fields (take (i + 1) ns) ≡ fields (take i ns) ++ field (get_or ns i d)
-fields_more ns i d h = ap fields (take_more ns i d h) ∙ fields-append (take i ns) (get_or ns i d)
-
--- what was written, a space, and a number
-pub number_written : (start once new : List ℕ) (written : List ℕ) (digits : List ℕ) (all : List ℕ) → once ≡ (start ++ written) ++ 32 ∷ [] → new ≡ once ++ digits → all ≡ written ++ 32 ∷ digits → new ≡ start ++ all
-number_written start once new written digits all o n e =
-    n ∙ ap (λ (t : List ℕ). t ++ digits) o ∙ append_assoc (start ++ written) (32 ∷ []) digits ∙ append_assoc start written (32 ∷ digits) ∙ ap (λ (t : List ℕ). start ++ t) (sym e)
+use Rattle.fleet_cli.specs.Lines.{sound_line}
 
 -- the visits of the robots so far, and of the next one
 pub visits_more : (routes : List (List PlannedVisit)) → AreRoutes routes → (r : ℕ) → r < length routes

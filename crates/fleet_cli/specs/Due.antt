@@ -27,7 +27,7 @@ pub data IsMade (files : Files) (words : List (List ℕ)) (text : List ℕ) : Ty
 
 -- The words and the files make this the text of a call, with this status: the line of a plan that is checked, the text that the
 -- words ask for, or the line of a refusal.
-pub data IsDue (files : Files) (failed : Type 0) (words : List (List ℕ)) (end : Status) (text : List ℕ) : Type 0 where
+pub data IsDue (files : Files) (failed : List ℕ → Type 0) (words : List (List ℕ)) (end : Status) (text : List ℕ) : Type 0 where
   a_check : end ≡ Done → (command : Command) (papers : Papers) (routes : List (List PlannedVisit)) → Checks command → IsAsked files words command papers routes → text ≡ sound_line routes ++ 10 ∷ [] → IsDue files failed words end text
   a_made_text : end ≡ Done → IsMade files words text → IsDue files failed words end text
   a_refusal : (fault : Fault) → IsCause files failed words fault → end ≡ status_of fault → text ≡ fault_line fault ++ 10 ∷ [] → IsDue files failed words end text

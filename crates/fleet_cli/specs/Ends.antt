@@ -7,20 +7,25 @@ use Rattle.fleet_base.specs.State.{FleetState}
 use Rattle.fleet_recovery.specs.Papers.{Papers}
 use Rattle.fleet_recovery.specs.Image.{StandsFor}
 use Rattle.station_api.specs.Scene.{Scene}
+use Rattle.fleet_serve.specs.Spans.{Span, sent_over}
 use Rattle.fleet_serve.specs.Told.{Sends, SendsPart, Takes}
 use Rattle.command_words.specs.declared.command.Command.{Command}
 use Rattle.command_words.specs.declared.command.Command.TheVariants.{Run}
 use Rattle.fleet_cli.specs.Papers.{Files}
 use Rattle.fleet_cli.specs.Words.{RunsWith}
 use Rattle.fleet_cli.specs.Due.{IsAsked, IsDue}
-use Rattle.fleet_cli.specs.Runs.{Line, Talk, sent_on, SidesStay, RunEnds, run_settings}
+use Rattle.fleet_cli.specs.Runs.{Talk, SidesStay, RunEnds, run_settings}
 
--- all that a call of the program is handed and leaves: its words, the files and whether the shelf failed, and its talk
+-- all that a call of the program is handed and leaves: its words, the files, the names of those at which the shelf failed, and its talk
 pub record Call : Type 1 where
   pub words : List (List ℕ)
   pub files : Files
-  pub shelf_failed : Type 0
+  pub shelf_failed : List ℕ → Type 0
   pub talk : Talk
+
+-- a call with these words and files, the names of those at which its shelf failed, and its talk
+abbrev pub call : List (List ℕ) → Files → (List ℕ → Type 0) → Talk → Call
+call words files shelf_failed talk = record { words = words; files = files; shelf_failed = shelf_failed; talk = talk }
 
 -- the text is the one that is due with this status
 abbrev pub IsText : Call → Status → List ℕ → Type 0
@@ -28,7 +33,7 @@ IsText call end text = IsDue call.files call.shelf_failed call.words end text
 
 -- the text that is due was sent whole
 abbrev pub SaysText : Call → Status → Type 0
-SaysText call end = (text : List ℕ) × IsText call end text × Sends (sent_on call.talk.line) text
+SaysText call end = (text : List ℕ) × IsText call end text × Sends (sent_over call.talk.station) text
 
 -- How a call ends that has one text to say. After want of memory it has sent nothing; after a fault of the station, some front of
 -- the text that is due; else the whole text.
@@ -38,14 +43,14 @@ TextEnds call Usage = SaysText call Usage
 TextEnds call Input = SaysText call Input
 TextEnds call Journal = ⊥
 TextEnds call ReadFault = SaysText call ReadFault
-TextEnds call StationFault = call.talk.line.failed × ((end : Status) × (text : List ℕ) × IsText call end text × SendsPart (sent_on call.talk.line) [] text)
-TextEnds call Memory = Sends (sent_on call.talk.line) []
+TextEnds call StationFault = call.talk.station_failed × ((end : Status) × (text : List ℕ) × IsText call end text × SendsPart (sent_over call.talk.station) [] text)
+TextEnds call Memory = Sends (sent_over call.talk.station) []
 TextEnds call Limit = ⊥
 
 -- a call that has one text to say takes no input, and the sides stay as they are
 pub record IsTextCall (call : Call) (end : Status) : Type 0 where
   pub takes : Takes call.talk.input []
-  pub stay : SidesStay call.talk.line
+  pub stay : SidesStay call.talk.station
   pub ends : TextEnds call end
 
 -- A call that runs a sound plan, with the journal, the budget and the flag that the words give: how it ends.
@@ -77,8 +82,8 @@ IsSmooth (Run m p journal budget quiet) Limit = Unit {0}
 IsSmooth command Limit = ⊥
 
 -- the text was sent whole, or memory was wanting
-abbrev pub SendsIfMemory : Line → List ℕ → Status → Type 0
-SendsIfMemory line text end = ((end ≡ Done) × Sends (sent_on line) text) ⊎ (end ≡ Memory)
+abbrev pub SendsIfMemory : Span → List ℕ → Status → Type 0
+SendsIfMemory s text end = ((end ≡ Done) × Sends (sent_over s) text) ⊎ (end ≡ Memory)
 
 -- the sides are told and stand for a state, if the command is a run
 abbrev pub MayOpen : Command → List (List PlannedVisit) → Papers → Type 0 → Scene → Type 0

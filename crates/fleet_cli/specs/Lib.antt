@@ -7,6 +7,7 @@ pub mod Lines
 pub mod Lives
 pub mod Papers
 pub mod Planning
+pub mod Refusals
 pub mod Refusing
 pub mod Runs
 pub mod Sessions

@@ -3,7 +3,7 @@ use Rattle.std.specs.Prelude.{ℕ, List, [], ◌∷◌, ◌++◌, length, sum_by
 use Rattle.fleet_base.specs.declared.geometry.PlannedVisit.{PlannedVisit}
 use Rattle.fleet_base.specs.declared.status.Status.{Status}
 use Rattle.fleet_base.specs.declared.status.Status.TheVariants as status
-use Rattle.fleet_base.specs.Bytes.{field}
+use Rattle.fleet_base.specs.Bytes.{fields}
 use Rattle.fleet_base.specs.Pairs.{pairs_of}
 use Rattle.map_text.specs.declared.fault.MapKind.{MapKind}
 use Rattle.map_text.specs.declared.fault.MapKind.TheVariants as map_kind
@@ -66,11 +66,6 @@ abbrev pub large_word : Large → List ℕ
 large_word large.Robots = codes "robots"
 large_word large.Ticks = codes "ticks"
 large_word large.Visits = codes "visits"
-
--- numbers, each with a space in front
-abbrev pub fields : List ℕ → List ℕ
-fields [] = []
-fields (n ∷ ns) = field n ++ fields ns
 
 -- the line of a plan that cannot be carried out
 abbrev pub unsound_line : Unsound → List ℕ

@@ -6,15 +6,15 @@ use Rattle.fleet_base.specs.declared.geometry.Visit.{Visit}
 use Rattle.fleet_base.specs.Order.{Graph, graph_of}
 use Rattle.fleet_base.specs.State.{FleetState, IsWindow}
 use Rattle.fleet_base.specs.Release.{IsFirstStateAhead}
-use Rattle.fleet_base.specs.Bytes.{IsPrefix, whole_lines}
+use Rattle.fleet_base.specs.Bytes.{IsPrefix, whole_lines, text_of_lines}
 use Rattle.fleet_base.specs.World.{Mark, World, Event, Marked, Begun, Ended, at_start, place_of, AlwaysTrue, Run}
 use Rattle.report_text.specs.declared.answer.Answer.TheVariants.{Done}
 use Rattle.report_text.specs.AnswerLine.{answer_line}
 use Rattle.fleet_core.specs.declared.entry.Entry.{Entry}
 use Rattle.fleet_core.specs.Step.{Step}
 use Rattle.journal_frame.specs.Entries.{Accepted}
-use Rattle.fleet_serve.specs.declared.outcome.Settings.{Settings}
-use Rattle.fleet_serve.specs.Lines.{text_of, greeting_of}
+use Rattle.fleet_serve.specs.declared.session.Settings.{Settings}
+use Rattle.fleet_serve.specs.Lines.{greeting_of}
 use Rattle.fleet_serve.specs.Turns.{Point, TurnMade, AreTurns, state_after, answers_of}
 
 -- ---- sessions one after another
@@ -56,9 +56,9 @@ pub record SessionMade : Type 0 where
 -- begun with, and of what it sends only a fault line can be there. Kept, the sides stand for the state after some turns, with a
 -- front of the greeting and these turns' answers sent, and a fault line only behind all turns.
 pub data IsMarkOf (routes : List (List PlannedVisit)) (MayBegin : FleetState → List Accepted → Type 0) (s : SessionMade) (mark : Mark) (held : List Accepted) : Type 0 where
-  early : (ending : List (List ℕ)) → MayBegin mark.state held → IsEnding ending → IsPrefix mark.sent (text_of ending) → IsMarkOf routes MayBegin s mark held
+  early : (ending : List (List ℕ)) → MayBegin mark.state held → IsEnding ending → IsPrefix mark.sent (text_of_lines ending) → IsMarkOf routes MayBegin s mark held
   kept : (made : ℕ) (ending : List (List ℕ)) → IsEnding ending → (ending ≡ []) ⊎ (length s.turns ≤ made) → mark.state ≡ state_after s.start (take made s.turns)
-      → IsPrefix mark.sent (text_of (greeting_of routes s.start.state ++ (answers_of (take made s.turns) ++ ending))) → held ≡ s.held ++ entries_of (take made s.turns) → IsMarkOf routes MayBegin s mark held
+      → IsPrefix mark.sent (text_of_lines (greeting_of routes s.start.state ++ (answers_of (take made s.turns) ++ ending))) → held ≡ s.held ++ entries_of (take made s.turns) → IsMarkOf routes MayBegin s mark held
 
 -- what has been sent at the last mark
 abbrev pub last_sent : List ℕ → List Event → List ℕ

@@ -1,19 +1,32 @@
 -- The map and the plan that a command names, as far as a shelf tells its files.
-use Rattle.std.specs.Prelude.{ℕ, ◌≡◌, ◌^◌, ◌<◌, ◌≤◌, List, length, Option, Some}
+use Rattle.std.specs.Prelude.{ℕ, ◌≡◌, ◌<◌, ◌≤◌, List, length, Option, Some, IfSome}
 use Rattle.fleet_base.specs.declared.geometry.Cell.{Cell}
 use Rattle.fleet_base.specs.declared.geometry.PlannedVisit.{PlannedVisit}
 use Rattle.fleet_base.specs.Grid.{OccupancyGrid}
 use Rattle.fleet_base.specs.Plan.{IsAccepted, visits_of}
 use Rattle.fleet_base.specs.Pairs.{pairs_of}
+use Rattle.fleet_base.specs.Limits.{paper_limit, pair_limit}
 use Rattle.fleet_recovery.specs.Papers.{Papers}
 use Rattle.map_text.specs.MapText.{IsMapText}
 use Rattle.plan_text.specs.PlanText.{IsPlanText}
-use Rattle.fleet_cli.specs.declared.papers.Papers.{Papers as SoundPapers}
+use Rattle.fleet_cli.specs.declared.papers.CheckedPapers.{CheckedPapers}
 
 -- the files of a shelf, and whether it tells them
 pub record Files : Type 1 where
   pub tells : Type 0
   pub file : List ℕ → Option (List ℕ)
+
+-- these files, told or not
+abbrev pub files_of : Type 0 → (List ℕ → Option (List ℕ)) → Files
+files_of tells file = record { tells = tells; file = file }
+
+-- the shelf failed, and the file of this name is the one that it was asked for last, where it tells the name
+abbrev pub failed_at : Type 0 → Option (List ℕ) → Type 0 → List ℕ → Type 0
+failed_at tells asked failed name = failed × (tells → IfSome asked (λ n. n ≡ name))
+
+-- the shelf failed at no file
+abbrev pub nowhere : List ℕ → Type 0
+nowhere name = ⊥
 
 -- where the shelf tells its files, the one of this name has these bytes
 abbrev pub IsFile : Files → List ℕ → List ℕ → Type 0
@@ -21,13 +34,13 @@ IsFile files name bytes = files.tells → files.file name ≡ Some bytes
 
 -- the file is longer than 2^25 bytes, and so long
 pub record IsLong (files : Files) (name : List ℕ) (n : ℕ) : Type 0 where
-  pub above : 2 ^ 25 < n
+  pub above : paper_limit < n
   pub is_file : files.tells → (bytes : List ℕ) × (files.file name ≡ Some bytes) × (n ≡ length bytes)
 
 -- the file has these bytes, at most 2^25 of them
 pub record IsPaper (files : Files) (name bytes : List ℕ) : Type 0 where
   pub is_file : IsFile files name bytes
-  pub small : length bytes ≤ 2 ^ 25
+  pub small : length bytes ≤ paper_limit
 
 -- the file of this name is this map
 pub record HasMap (files : Files) (map_name : List ℕ) (grid : OccupancyGrid) : Type 0 where
@@ -55,12 +68,12 @@ pub record HasRoutes (files : Files) (map_name plan_name : List ℕ) (routes : L
   pub visits : routes ≡ visits_of plan
 
 -- the bytes that were read
-abbrev pub bytes_of : SoundPapers → Papers
+abbrev pub bytes_of : CheckedPapers → Papers
 bytes_of papers = record { map = papers.map.items; plan = papers.text.items }
 
 -- the plan of these files is accepted, with these routes, and has few enough pairs; these are the bytes of both files
 pub record IsSoundPaper (files : Files) (map_name plan_name : List ℕ) (papers : Papers) (routes : List (List PlannedVisit)) : Type 0 where
   pub has : HasRoutes files map_name plan_name routes
-  pub few : length (pairs_of routes) ≤ 1048576
+  pub few : length (pairs_of routes) ≤ pair_limit
   pub map_is : papers.map ≡ has.papers.on.bytes
   pub plan_is : papers.plan ≡ has.papers.bytes

@@ -43,13 +43,13 @@ pub record IsPlanFor (files : Files) (map_name scen_name : List ℕ) (robots hor
   pub text_is : text ≡ plan_text_of plan
 
 -- The first of these that is so of the files with these names, in this order: the map's file, the map, the scenario's file, the
--- scenario, its tasks, the path of a robot. The second argument says that the shelf failed.
-abbrev pub IsUnplanned : Files → Type 0 → List ℕ → List ℕ → ℕ → ℕ → Fault → Type 0
+-- scenario, its tasks, the path of a robot. The second argument says that the shelf failed at the file of a name.
+abbrev pub IsUnplanned : Files → (List ℕ → Type 0) → List ℕ → List ℕ → ℕ → ℕ → Fault → Type 0
 IsUnplanned files failed map_name scen_name robots horizon (Long paper.Map n) = IsLong files map_name n
-IsUnplanned files failed map_name scen_name robots horizon (Unread paper.Map) = failed
+IsUnplanned files failed map_name scen_name robots horizon (Unread paper.Map) = failed map_name
 IsUnplanned files failed map_name scen_name robots horizon (Map f) = (bytes : List ℕ) × IsPaper files map_name bytes × IsMapFault (file_lines bytes) f.line f.kind
 IsUnplanned files failed map_name scen_name robots horizon (Long paper.Scen n) = HasAMap files map_name × IsLong files scen_name n
-IsUnplanned files failed map_name scen_name robots horizon (Unread paper.Scen) = HasAMap files map_name × failed
+IsUnplanned files failed map_name scen_name robots horizon (Unread paper.Scen) = HasAMap files map_name × failed scen_name
 IsUnplanned files failed map_name scen_name robots horizon (Scen f) = HasAMap files map_name × ((bytes : List ℕ) × IsPaper files scen_name bytes × IsScenFault (file_lines bytes) f.line f.kind)
 IsUnplanned files failed map_name scen_name robots horizon (BadTask i why) = (grid : OccupancyGrid) × (tasks : List Task) × HasTasks files map_name scen_name grid tasks × IsFirstBad grid (take robots tasks) i why
 IsUnplanned files failed map_name scen_name robots horizon (NoPath i) = (grid : OccupancyGrid) × (tasks : List Task) × HasTasks files map_name scen_name grid tasks × AreGood grid (take robots tasks) × IsWithoutPath grid horizon (take robots tasks) i

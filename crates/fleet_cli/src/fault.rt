@@ -1,9 +1,11 @@
-// Why a command is refused, and the line that says so.
+// Why a command is refused.
+use command_words::WordsError;
 use fleet_base::{Memory, Status};
-use map_text::{MapFault, ScenFault};
-use path_planner::TaskWhy;
-use plan_check::Unsound;
-use plan_text::PlanFault;
+use map_text::{MapError, MapFault, ScenError, ScenFault};
+use path_planner::{PlannerError, TaskWhy};
+use plan_check::{CheckError, Unsound};
+use plan_text::{PlanError, PlanFault};
+use switch_pairs::PairsError;
 
 /// A file that a command names.
 #[derive(Clone, Copy, Debug, PartialEq, Eq)]
@@ -69,5 +71,104 @@ impl From<Memory> for Refusal {
 
     fn from(_memory: Memory) -> Refusal {
         Refusal::Memory
+    }
+}
+
+impl From<WordsError> for Refusal {
+    ghost use Rattle.std.specs.Prelude.{◌≡◌};
+    ghost use Rattle.fleet_cli.specs.Refusals.{of_words};
+
+    ghost from_gives = { λ error refusal. refusal ≡ of_words error };
+
+    fn from(error: WordsError) -> Refusal {
+        match error {
+            WordsError::Usage => Refusal::Fault(Fault::Usage),
+            WordsError::Memory => Refusal::Memory,
+        }
+    }
+}
+
+impl From<MapError> for Refusal {
+    ghost use Rattle.std.specs.Prelude.{◌≡◌};
+    ghost use Rattle.fleet_cli.specs.Refusals.{of_map};
+
+    ghost from_gives = { λ error refusal. refusal ≡ of_map error };
+
+    fn from(error: MapError) -> Refusal {
+        match error {
+            MapError::Fault(fault) => Refusal::Fault(Fault::Map(fault)),
+            MapError::Memory => Refusal::Memory,
+        }
+    }
+}
+
+impl From<PlanError> for Refusal {
+    ghost use Rattle.std.specs.Prelude.{◌≡◌};
+    ghost use Rattle.fleet_cli.specs.Refusals.{of_plan};
+
+    ghost from_gives = { λ error refusal. refusal ≡ of_plan error };
+
+    fn from(error: PlanError) -> Refusal {
+        match error {
+            PlanError::Fault(fault) => Refusal::Fault(Fault::Plan(fault)),
+            PlanError::Memory => Refusal::Memory,
+        }
+    }
+}
+
+impl From<CheckError> for Refusal {
+    ghost use Rattle.std.specs.Prelude.{◌≡◌};
+    ghost use Rattle.fleet_cli.specs.Refusals.{of_check};
+
+    ghost from_gives = { λ error refusal. refusal ≡ of_check error };
+
+    fn from(error: CheckError) -> Refusal {
+        match error {
+            CheckError::Unsound(fault) => Refusal::Fault(Fault::Unsound(fault)),
+            CheckError::Memory => Refusal::Memory,
+        }
+    }
+}
+
+impl From<PairsError> for Refusal {
+    ghost use Rattle.std.specs.Prelude.{◌≡◌};
+    ghost use Rattle.fleet_cli.specs.Refusals.{of_pairs};
+
+    ghost from_gives = { λ error refusal. refusal ≡ of_pairs error };
+
+    fn from(error: PairsError) -> Refusal {
+        match error {
+            PairsError::TooMany { count } => Refusal::Fault(Fault::Pairs { count }),
+            PairsError::Memory => Refusal::Memory,
+        }
+    }
+}
+
+impl From<ScenError> for Refusal {
+    ghost use Rattle.std.specs.Prelude.{◌≡◌};
+    ghost use Rattle.fleet_cli.specs.Refusals.{of_scen};
+
+    ghost from_gives = { λ error refusal. refusal ≡ of_scen error };
+
+    fn from(error: ScenError) -> Refusal {
+        match error {
+            ScenError::Fault(fault) => Refusal::Fault(Fault::Scen(fault)),
+            ScenError::Memory => Refusal::Memory,
+        }
+    }
+}
+
+impl From<PlannerError> for Refusal {
+    ghost use Rattle.std.specs.Prelude.{◌≡◌};
+    ghost use Rattle.fleet_cli.specs.Refusals.{of_planner};
+
+    ghost from_gives = { λ error refusal. refusal ≡ of_planner error };
+
+    fn from(error: PlannerError) -> Refusal {
+        match error {
+            PlannerError::BadTask { robot, why } => Refusal::Fault(Fault::BadTask { robot, why }),
+            PlannerError::NoPath { robot } => Refusal::Fault(Fault::NoPath { robot }),
+            PlannerError::Memory => Refusal::Memory,
+        }
     }
 }

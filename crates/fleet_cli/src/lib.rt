@@ -12,6 +12,5 @@ mod saying;
 mod session;
 mod task;
 mod top;
-mod writing;
 
 pub use top::fleet_main;

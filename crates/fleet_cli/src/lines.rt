@@ -1,10 +1,10 @@
 // The lines of refusals.
 ghost use Rattle.std.specs.Prelude.{◌≡◌, ◌++◌, codes, OnOk};
-ghost use Rattle.fleet_cli.specs.Lines.{fields, fault_line, unsound_line, paper_word, map_word, scen_word, task_word, plan_word, large_word};
+ghost use Rattle.fleet_cli.specs.Lines.{fault_line, unsound_line, paper_word, map_word, scen_word, task_word, plan_word, large_word};
+ghost use Rattle.fleet_base.specs.Bytes.{fields};
 
 use crate::fault::{Fault, Paper};
-use crate::writing::{push_fields, push_robots};
-use fleet_base::{Memory, Text, push_bytes};
+use fleet_base::{Memory, Text, push_bytes, push_field, push_fields};
 use map_text::{MapKind, ScenKind};
 use path_planner::TaskWhy;
 use plan_check::{Large, Unsound};
@@ -71,6 +71,16 @@ fn push_unsound(out: &mut Text, unsound: &Unsound) -> Result<(), Memory>
             push_robots(out, robots.as_slice())
         }
     }
+}
+
+/// Appends the numbers of robots, each with a space in front.
+fn push_robots(out: &mut Text, robots: &[u32]) -> Result<(), Memory>
+    ensures { OnOk result (out.new ≡ out.old ++ fields robots.now) }
+{
+    for robot in robots {
+        push_field(out, u64::from(*robot))?;
+    }
+    Ok(())
 }
 
 /// Appends two pieces.

@@ -1,24 +1,19 @@
 // The map and the plan of a command.
-ghost use Rattle.std.specs.Prelude.{◌≡◌, ◌^◌, ◌≤◌, ℕ, List, length, IfOk, IfErr, OnOk};
-ghost use Rattle.fleet_base.specs.Plan.{IsAccepted, visits_of, HasRobots};
+ghost use Rattle.std.specs.Prelude.{◌≡◌, ℕ, List, IfOk, IfErr};
 ghost use Rattle.fleet_base.specs.Pairs.{pairs_of};
-ghost use Rattle.station_api.specs.Causes.{Counted, Rose};
-ghost use Rattle.map_text.specs.MapText.{IsMapText};
-ghost use Rattle.plan_text.specs.PlanText.{IsPlanText};
-ghost use Rattle.fleet_cli.specs.Papers.{Files, bytes_of, IsPaper, IsSoundPaper};
-ghost use Rattle.fleet_cli.specs.Fetching.{Counts, IsUnfetched, IsMapRefusal, IsPlanRefusal, IsUnsoundRefusal, IsPairsRefusal, HasReason};
+ghost use Rattle.station_api.specs.Causes.{Counted};
+ghost use Rattle.fleet_cli.specs.Runs.{HasFailed};
+ghost use Rattle.fleet_cli.specs.Papers.{files_of, bytes_of, IsPaper, IsSoundPaper, failed_at};
+ghost use Rattle.fleet_cli.specs.Fetching.{Counts, IsUnfetched, HasReason};
 
 use crate::fault::{Fault, Paper, Refusal};
-use fleet_base::{Grid, PairTable, RawPlan, SoundPlan};
-use map_text::{MapError, read_map};
-use plan_check::{CheckError, check};
-use plan_text::{PlanError, read_plan};
+use fleet_base::{PairTable, SoundPlan, limits};
+use map_text::read_map;
+use plan_check::check;
+use plan_text::read_plan;
 use station_api::{Shelf, ShelfFault};
 use std::alloc::Global;
-use switch_pairs::{PairsError, pairs};
-
-/// The greatest length of a map file and of a plan file, in bytes.
-const PAPER_LIMIT: u64 = 1 << 25;
+use switch_pairs::pairs;
 
 /// What is printed of a plan that is sound.
 #[derive(Clone, Copy, Debug, PartialEq, Eq)]
@@ -30,7 +25,7 @@ pub struct Sound {
 
 /// The bytes of a map and of a plan that is sound on it, with the plan and its pairs.
 #[derive(Drop)]
-pub struct Papers {
+pub struct CheckedPapers {
     pub map: Vec<u8>,
     pub text: Vec<u8>,
     pub plan: SoundPlan,
@@ -43,19 +38,19 @@ pub fn read_papers<H: Shelf>(
     shelf: &mut H,
     map_name: &str,
     plan_name: &str,
-) -> Result<Papers, Refusal>
-    ensures sound { IfOk result (λ papers. IsSoundPaper (record { tells = H.tells; file = H.file shelf.old }) map_name.now plan_name.now (bytes_of papers) papers.plan) }
+) -> Result<CheckedPapers, Refusal>
+    ensures sound { IfOk result (λ papers. IsSoundPaper (files_of H.tells (H.file shelf.old)) map_name.now plan_name.now (bytes_of papers) papers.plan) }
     ensures pairs { IfOk result (λ papers. papers.pairs ≡ pairs_of papers.plan) }
-    ensures refused { IfErr result (HasReason (record { tells = H.tells; file = H.file shelf.old }) (Rose (H.counts shelf.old).faults (H.counts shelf.new).faults) map_name.now plan_name.now) }
+    ensures refused { IfErr result (HasReason (files_of H.tells (H.file shelf.old)) (failed_at H.tells (H.asked shelf.new) (HasFailed (H.counts shelf.old) (H.counts shelf.new))) map_name.now plan_name.now) }
     ensures counted { Counted (H.counts shelf.old) (H.counts shelf.new) }
 {
     let map = fetch(alloc, shelf, map_name, Paper::Map)?;
-    let grid = map_of(alloc, &map)?;
+    let grid = read_map(alloc, &map)?;
     let text = fetch(alloc, shelf, plan_name, Paper::Plan)?;
-    let raw = plan_of(alloc, &text)?;
-    let plan = sound_plan(alloc, &grid, &raw)?;
-    let pairs = pair_table(alloc, &plan)?;
-    Ok(Papers {
+    let raw = read_plan(alloc, &text)?;
+    let plan = check(alloc, &grid, &raw)?;
+    let pairs = pairs(alloc, &plan)?;
+    Ok(CheckedPapers {
         map,
         text,
         plan,
@@ -70,12 +65,12 @@ pub fn fetch<H: Shelf>(
     name: &str,
     paper: Paper,
 ) -> Result<Vec<u8>, Refusal>
-    ensures read { IfOk result (λ bytes. IsPaper (record { tells = H.tells; file = H.file shelf.old }) name.now bytes.items) }
-    ensures refused { IfErr result (IsUnfetched (record { tells = H.tells; file = H.file shelf.old }) (Rose (H.counts shelf.old).faults (H.counts shelf.new).faults) name.now paper) }
+    ensures read { IfOk result (λ bytes. IsPaper (files_of H.tells (H.file shelf.old)) name.now bytes.items) }
+    ensures refused { IfErr result (IsUnfetched (files_of H.tells (H.file shelf.old)) (failed_at H.tells (H.asked shelf.new) (HasFailed (H.counts shelf.old) (H.counts shelf.new))) name.now paper) }
     ensures files { H.tells → (n : List ℕ) → H.file shelf.new n ≡ H.file shelf.old n }
     ensures counted { Counted (H.counts shelf.old) (H.counts shelf.new) }
 {
-    match shelf.fetch(alloc, name, PAPER_LIMIT) {
+    match shelf.fetch(alloc, name, limits::PAPER) {
         Ok(bytes) => Ok(bytes),
         Err(ShelfFault::TooLong { length }) => Err(Refusal::Fault(Fault::Long { paper, length })),
         Err(ShelfFault::Missing | ShelfFault::Failed) => {
@@ -85,61 +80,8 @@ pub fn fetch<H: Shelf>(
     }
 }
 
-/// Reads a map.
-pub fn map_of(alloc: Global, bytes: &[u8]) -> Result<Grid, Refusal>
-    requires { length bytes.now ≤ 2 ^ 25 }
-    ensures read { IfOk result (IsMapText bytes.now) }
-    ensures refused { IfErr result (IsMapRefusal bytes.now) }
-{
-    match read_map(alloc, bytes) {
-        Ok(grid) => Ok(grid),
-        Err(MapError::Fault(fault)) => Err(Refusal::Fault(Fault::Map(fault))),
-        Err(MapError::Memory) => Err(Refusal::Memory),
-    }
-}
-
-/// Reads a plan.
-fn plan_of(alloc: Global, bytes: &[u8]) -> Result<RawPlan, Refusal>
-    requires { length bytes.now ≤ 2 ^ 25 }
-    ensures read { IfOk result (IsPlanText bytes.now) }
-    ensures refused { IfErr result (IsPlanRefusal bytes.now) }
-{
-    match read_plan(alloc, bytes) {
-        Ok(plan) => Ok(plan),
-        Err(PlanError::Fault(fault)) => Err(Refusal::Fault(Fault::Plan(fault))),
-        Err(PlanError::Memory) => Err(Refusal::Memory),
-    }
-}
-
-/// Checks a plan.
-fn sound_plan(alloc: Global, grid: &Grid, raw: &RawPlan) -> Result<SoundPlan, Refusal>
-    requires { HasRobots raw.now }
-    ensures accepted { OnOk result (IsAccepted grid.now raw.now) }
-    ensures visits { IfOk result (λ plan. plan ≡ visits_of raw.now) }
-    ensures refused { IfErr result (IsUnsoundRefusal grid.now raw.now) }
-{
-    match check(alloc, grid, raw) {
-        Ok(plan) => Ok(plan),
-        Err(CheckError::Unsound(fault)) => Err(Refusal::Fault(Fault::Unsound(fault))),
-        Err(CheckError::Memory) => Err(Refusal::Memory),
-    }
-}
-
-/// The pairs of a plan.
-fn pair_table(alloc: Global, plan: &SoundPlan) -> Result<PairTable, Refusal>
-    ensures few { OnOk result (length (pairs_of plan.now) ≤ 1048576) }
-    ensures pairs { IfOk result (λ table. table ≡ pairs_of plan.now) }
-    ensures refused { IfErr result (IsPairsRefusal plan.now) }
-{
-    match pairs(alloc, plan) {
-        Ok(table) => Ok(table),
-        Err(PairsError::TooMany { count }) => Err(Refusal::Fault(Fault::Pairs { count })),
-        Err(PairsError::Memory) => Err(Refusal::Memory),
-    }
-}
-
 /// How many robots, visits and pairs a plan has.
-pub fn sound_of(papers: &Papers) -> Sound
+pub fn sound_of(papers: &CheckedPapers) -> Sound
     requires { papers.now.pairs ≡ pairs_of papers.now.plan }
     ensures { Counts papers.now.plan result }
 {

@@ -1,14 +1,14 @@
 // A journal that is not opened.
 ghost use Rattle.std.specs.Prelude.{◌≡◌, ◌∷◌, ◌++◌, [], IfOk};
 ghost use Rattle.fleet_base.specs.Bytes.{field};
-ghost use Rattle.station_api.specs.Causes.{Counted, Rose};
+ghost use Rattle.station_api.specs.Causes.{Counted};
 ghost use Rattle.station_api.specs.Disk.{IsSending};
-ghost use Rattle.fleet_serve.specs.Told.{Told};
+ghost use Rattle.fleet_serve.specs.Spans.{span, sent_over};
+ghost use Rattle.fleet_cli.specs.Runs.{HasFailed};
 ghost use Rattle.fleet_cli.specs.Refusing.{SaysRefusal, IsRefusedSo, HasNoLine};
 
 use crate::saying::say;
-use crate::writing::push_fields;
-use fleet_base::{Memory, Status, Text, push_bytes};
+use fleet_base::{Memory, Status, Text, push_bytes, push_field};
 use fleet_journal::JournalError;
 use fleet_recovery::RecoverError;
 use station_api::Station;
@@ -16,7 +16,7 @@ use std::alloc::Global;
 
 /// Ends a run whose journal was not opened, with the line of a refusal if it has one.
 pub fn refuse<T: Station>(alloc: Global, station: &mut T, error: &RecoverError) -> Status
-    ensures refused { IsRefusedSo error.now (record { tells = T.tells; before = (T.clock station.old).seen.sent; now = (T.clock station.new).seen.sent }) (Rose (T.counts station.old).faults (T.counts station.new).faults) result }
+    ensures refused { IsRefusedSo error.now (sent_over (span T.tells (T.clock station.old) (T.clock station.new))) (HasFailed (T.counts station.old) (T.counts station.new)) result }
     ensures sides { T.tells → IsSending (T.clock station.old) (T.clock station.new) }
     ensures silent { HasNoLine error.now → station.new ≡ station.old }
     ensures counted { Counted (T.counts station.old) (T.counts station.new) }
@@ -38,7 +38,7 @@ pub fn refuse<T: Station>(alloc: Global, station: &mut T, error: &RecoverError) 
 
 /// Sends a line of words and a number, which refuses the journal.
 fn say_number<T: Station>(alloc: Global, station: &mut T, words: &[u8], number: u64) -> Status
-    ensures refused { SaysRefusal (words.now ++ field number ++ 10 ∷ []) (record { tells = T.tells; before = (T.clock station.old).seen.sent; now = (T.clock station.new).seen.sent }) (Rose (T.counts station.old).faults (T.counts station.new).faults) result }
+    ensures refused { SaysRefusal (words.now ++ field number ++ 10 ∷ []) (sent_over (span T.tells (T.clock station.old) (T.clock station.new))) (HasFailed (T.counts station.old) (T.counts station.new)) result }
     ensures sides { T.tells → IsSending (T.clock station.old) (T.clock station.new) }
     ensures counted { Counted (T.counts station.old) (T.counts station.new) }
 {
@@ -54,7 +54,7 @@ fn number_text(alloc: Global, words: &[u8], number: u64) -> Result<Text, Memory>
 {
     let mut text = Text::new(alloc);
     push_bytes(&mut text, words)?;
-    push_fields(&mut text, &[number])?;
+    push_field(&mut text, number)?;
     text.push(b'\n')?;
     Ok(text)
 }

@@ -4,34 +4,33 @@ ghost use Rattle.fleet_base.specs.Order.{graph_of};
 ghost use Rattle.fleet_base.specs.Pairs.{pairs_of};
 ghost use Rattle.fleet_base.specs.Plan.{AreRoutes};
 ghost use Rattle.fleet_base.specs.Rules.{IsFleetState};
+ghost use Rattle.fleet_base.specs.Limits.{paper_limit, side_limit};
 ghost use Rattle.station_api.specs.Clock.{LeavesOnly, LeavesNow};
-ghost use Rattle.station_api.specs.Causes.{Counted, IsToBlame, Rose};
+ghost use Rattle.station_api.specs.Causes.{Counted, IsToBlame};
 ghost use Rattle.station_api.specs.Disk.{IsQuiet};
 ghost use Rattle.fleet_recovery.specs.Image.{IsImage};
 ghost use Rattle.fleet_recovery.specs.Answers.{RecoverRefuses, UnlessStation};
 ghost use Rattle.fleet_recovery.specs.Opening.{IsOpening, StandsStill, Opens, IsAtRest};
 ghost use Rattle.search_nodes.specs.Rooms.{IsRoomFor};
-ghost use Rattle.fleet_serve.specs.Told.{Told};
+ghost use Rattle.fleet_serve.specs.Told.{told};
+ghost use Rattle.fleet_serve.specs.Spans.{span};
 ghost use Rattle.fleet_cli.specs.Papers.{bytes_of};
-ghost use Rattle.fleet_cli.specs.Runs.{Line, Talk, OpenEnds, RunEnds, run_settings};
+ghost use Rattle.fleet_cli.specs.Runs.{HasFailed, talk, OpenEnds, RunEnds, run_settings};
 
-use crate::papers::Papers;
+use crate::papers::CheckedPapers;
 use crate::refusing::refuse;
 use crate::saying::say;
-use fleet_base::{Fleet, Status};
+use fleet_base::{Fleet, Status, limits};
 use fleet_journal::{Journal, JournalError};
-use fleet_recovery::{RecoverError, recover};
-use fleet_serve::{Kit, Papers as Texts, ServeFault, Settings, StepFault, greet, serve};
+use fleet_recovery::{RecoverError, recover_on};
+use fleet_serve::{Kit, Papers, ServeFault, Settings, StepFault, greet, serve};
 use plan_graph::PlanGraph;
 use station_api::{AttachFault, Source, Station};
 use std::alloc::Global;
 
-/// The greatest length of a side of a run's journal.
-const SIDE_LIMIT: u64 = 1 << 30;
-
 /// What a run keeps while it serves.
 #[derive(Drop)]
-struct Session {
+struct Opened {
     graph: PlanGraph,
     fleet: Fleet,
     journal: Journal,
@@ -42,7 +41,7 @@ struct Session {
 /// input ends.
 pub fn run<S: Source, T: Station>(
     alloc: Global,
-    papers: &Papers,
+    papers: &CheckedPapers,
     journal: &str,
     budget: u64,
     quiet: bool,
@@ -51,24 +50,20 @@ pub fn run<S: Source, T: Station>(
 ) -> Status
     requires sound { AreRoutes papers.now.plan }
     requires pairs { papers.now.pairs ≡ pairs_of papers.now.plan }
-    requires small_map { length papers.now.map.items ≤ 2 ^ 25 }
-    requires small_plan { length papers.now.text.items ≤ 2 ^ 25 }
-    ensures ends { RunEnds papers.now.plan (bytes_of papers.now) (run_settings budget quiet) (record {
-      input = record { tells = S.tells; before = S.left source.old; now = S.left source.new };
-      last_read = S.last source.new;
-      source_failed = Rose (S.counts source.old).faults (S.counts source.new).faults;
-      line = record { tells = T.tells; old = T.clock station.old; new = T.clock station.new; failed = Rose (T.counts station.old).faults (T.counts station.new).faults };
-    }) result }
+    requires small_map { length papers.now.map.items ≤ paper_limit }
+    requires small_plan { length papers.now.text.items ≤ paper_limit }
+    ensures ends { RunEnds papers.now.plan (bytes_of papers.now) (run_settings budget quiet) (talk (told S.tells (S.left source.old) (S.left source.new)) (S.last source.new) (HasFailed (S.counts source.old) (S.counts source.new))
+        (span T.tells (T.clock station.old) (T.clock station.new)) (HasFailed (T.counts station.old) (T.counts station.new))) result }
     ensures source { Counted (S.counts source.old) (S.counts source.new) }
     ensures station { Counted (T.counts station.old) (T.counts station.new) }
 {
-    let Session {
+    let Opened {
         graph,
         mut fleet,
         mut journal,
         mut kit,
     } = match open(alloc, papers, journal, station) {
-        Ok(session) => session,
+        Ok(opened) => opened,
         Err(status) => return status,
     };
     let plan = &papers.plan;
@@ -77,15 +72,15 @@ pub fn run<S: Source, T: Station>(
         Err(StepFault::Station) => return Status::StationFault,
         Err(StepFault::Memory) => return Status::Memory,
     }
-    let texts = Texts {
+    let texts = Papers {
         map: &papers.map,
         plan: &papers.text,
     };
     let settings = Settings {
         budget,
         quiet,
-        side_limit: SIDE_LIMIT,
-        input_limit: 1 << 32,
+        side_limit: limits::SIDE,
+        input_limit: limits::INPUT,
     };
     match serve(
         alloc,
@@ -110,22 +105,22 @@ pub fn run<S: Source, T: Station>(
 /// Attaches the journal of this name and opens it; where it is not opened, sends the line that says why.
 fn open<T: Station>(
     alloc: Global,
-    papers: &Papers,
+    papers: &CheckedPapers,
     journal: &str,
     station: &mut T,
-) -> Result<Session, Status>
+) -> Result<Opened, Status>
     requires sound { AreRoutes papers.now.plan }
     requires pairs { papers.now.pairs ≡ pairs_of papers.now.plan }
-    requires small_map { length papers.now.map.items ≤ 2 ^ 25 }
-    requires small_plan { length papers.now.text.items ≤ 2 ^ 25 }
-    ensures graph { IfOk result (λ session. session.graph ≡ graph_of papers.now.plan) }
-    ensures rules { IfOk result (λ session. IsFleetState (graph_of papers.now.plan) session.fleet) }
-    ensures room { IfOk result (λ session. IsRoomFor (graph_of papers.now.plan) session.kit.room) }
-    ensures restores { T.tells → IfOk result (λ session. Opens papers.now.plan (bytes_of papers.now) (T.clock station.old).seen session.fleet session.journal.place) }
-    ensures rests { T.tells → IfOk result (λ session. IsAtRest papers.now.plan (bytes_of papers.now) session.journal session.fleet (T.clock station.new)) }
+    requires small_map { length papers.now.map.items ≤ paper_limit }
+    requires small_plan { length papers.now.text.items ≤ paper_limit }
+    ensures graph { IfOk result (λ opened. opened.graph ≡ graph_of papers.now.plan) }
+    ensures rules { IfOk result (λ opened. IsFleetState (graph_of papers.now.plan) opened.fleet) }
+    ensures room { IfOk result (λ opened. IsRoomFor (graph_of papers.now.plan) opened.kit.room) }
+    ensures restores { T.tells → IfOk result (λ opened. Opens papers.now.plan (bytes_of papers.now) (T.clock station.old).seen opened.fleet opened.journal.place) }
+    ensures rests { T.tells → IfOk result (λ opened. IsAtRest papers.now.plan (bytes_of papers.now) opened.journal opened.fleet (T.clock station.new)) }
     ensures opening { T.tells → IfOk result (λ _. LeavesOnly (IsOpening papers.now.plan (bytes_of papers.now) (T.clock station.old)) (T.clock station.old) (T.clock station.new)) }
     ensures unsent { T.tells → IfOk result (λ _. (T.clock station.new).seen.sent ≡ (T.clock station.old).seen.sent) }
-    ensures refused { IfErr result (OpenEnds papers.now.plan (bytes_of papers.now) (record { tells = T.tells; old = T.clock station.old; new = T.clock station.new; failed = Rose (T.counts station.old).faults (T.counts station.new).faults })) }
+    ensures refused { IfErr result (OpenEnds papers.now.plan (bytes_of papers.now) (span T.tells (T.clock station.old) (T.clock station.new)) (HasFailed (T.counts station.old) (T.counts station.new))) }
     ensures counted { Counted (T.counts station.old) (T.counts station.new) }
 {
     match station.attach(alloc, journal) {
@@ -134,7 +129,7 @@ fn open<T: Station>(
         Err(AttachFault::Memory) => return Err(Status::Memory),
     }
     match restore(alloc, papers, station) {
-        Ok(session) => Ok(session),
+        Ok(opened) => Ok(opened),
         Err(error) => Err(refuse(alloc, station, &error)),
     }
 }
@@ -142,20 +137,20 @@ fn open<T: Station>(
 /// Restores the state for which the sides of a journal stand, or makes a journal, with what a session needs.
 fn restore<T: Station>(
     alloc: Global,
-    papers: &Papers,
+    papers: &CheckedPapers,
     station: &mut T,
-) -> Result<Session, RecoverError>
+) -> Result<Opened, RecoverError>
     requires pairs { papers.now.pairs ≡ pairs_of papers.now.plan }
-    requires small_map { length papers.now.map.items ≤ 2 ^ 25 }
-    requires small_plan { length papers.now.text.items ≤ 2 ^ 25 }
-    ensures graph { IfOk result (λ session. session.graph ≡ graph_of papers.now.plan) }
-    ensures rules { IfOk result (λ session. IsFleetState (graph_of papers.now.plan) session.fleet) }
-    ensures room { IfOk result (λ session. IsRoomFor (graph_of papers.now.plan) session.kit.room) }
+    requires small_map { length papers.now.map.items ≤ paper_limit }
+    requires small_plan { length papers.now.text.items ≤ paper_limit }
+    ensures graph { IfOk result (λ opened. opened.graph ≡ graph_of papers.now.plan) }
+    ensures rules { IfOk result (λ opened. IsFleetState (graph_of papers.now.plan) opened.fleet) }
+    ensures room { IfOk result (λ opened. IsRoomFor (graph_of papers.now.plan) opened.kit.room) }
     ensures any_moment { T.tells → LeavesOnly (IsOpening papers.now.plan (bytes_of papers.now) (T.clock station.old)) (T.clock station.old) (T.clock station.new) }
-    ensures restores { T.tells → IfOk result (λ session. Opens papers.now.plan (bytes_of papers.now) (T.clock station.old).seen session.fleet session.journal.place) }
-    ensures rests { T.tells → IfOk result (λ session. IsAtRest papers.now.plan (bytes_of papers.now) session.journal session.fleet (T.clock station.new)) }
+    ensures restores { T.tells → IfOk result (λ opened. Opens papers.now.plan (bytes_of papers.now) (T.clock station.old).seen opened.fleet opened.journal.place) }
+    ensures rests { T.tells → IfOk result (λ opened. IsAtRest papers.now.plan (bytes_of papers.now) opened.journal opened.fleet (T.clock station.new)) }
     ensures unsent { T.tells → (T.clock station.new).seen.sent ≡ (T.clock station.old).seen.sent }
-    ensures refused { IfErr result (RecoverRefuses (λ image. T.tells → IsImage papers.now.plan (bytes_of papers.now) (T.clock station.old).seen image) (length papers.now.map.items + length papers.now.text.items + 28) (2 ^ 30)) }
+    ensures refused { IfErr result (RecoverRefuses (λ image. T.tells → IsImage papers.now.plan (bytes_of papers.now) (T.clock station.old).seen image) (length papers.now.map.items + length papers.now.text.items + 28) side_limit) }
     ensures stays { T.tells → IfErr result (UnlessStation (IsQuiet (T.clock station.old) (T.clock station.new))) }
     ensures afterwards { T.tells → IsQuiet (T.clock station.old) (T.clock station.new) ⊎ LeavesNow (StandsStill papers.now.plan (bytes_of papers.now) (T.clock station.old).seen) (T.clock station.new) }
     ensures counted { Counted (T.counts station.old) (T.counts station.new) }
@@ -163,16 +158,17 @@ fn restore<T: Station>(
 {
     let graph = PlanGraph::new(alloc, &papers.plan, &papers.pairs)?;
     let kit = Kit::new(alloc, &graph)?;
-    let (fleet, journal) = recover(
+    let (fleet, journal) = recover_on(
         alloc,
         station,
+        &graph,
         &papers.plan,
         &papers.pairs,
         &papers.map,
         &papers.text,
-        SIDE_LIMIT,
+        limits::SIDE,
     )?;
-    Ok(Session {
+    Ok(Opened {
         graph,
         fleet,
         journal,

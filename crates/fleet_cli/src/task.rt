@@ -1,20 +1,21 @@
 // What is to be done for some words, once the files are read.
 ghost use Rattle.std.specs.Prelude.{◌≡◌, ◌∷◌, ◌++◌, [], ℕ, List, map, string_bytes, codes, IfOk, IfErr};
-ghost use Rattle.station_api.specs.Causes.{Counted, Rose};
-ghost use Rattle.fleet_cli.specs.Papers.{Files};
+ghost use Rattle.station_api.specs.Causes.{Counted};
+ghost use Rattle.fleet_cli.specs.Runs.{HasFailed};
+ghost use Rattle.fleet_cli.specs.Papers.{files_of, failed_at};
 ghost use Rattle.fleet_base.specs.declared.status.Status.TheVariants.{Done};
+ghost use Rattle.fleet_base.specs.Bytes.{fields};
 ghost use Rattle.fleet_cli.specs.declared.task.Task.TheVariants.{Say};
 ghost use Rattle.fleet_cli.specs.Tasks.{IsCalledFor, IsTask};
-ghost use Rattle.fleet_cli.specs.Lines.{fields, fault_line};
+ghost use Rattle.fleet_cli.specs.Lines.{fault_line};
 
 use crate::fault::{Fault, Refusal};
 use crate::generating::fleet_text;
 use crate::lines::push_fault;
-use crate::papers::{Papers, Sound, read_papers, sound_of};
+use crate::papers::{CheckedPapers, Sound, read_papers, sound_of};
 use crate::planning::plan_for;
-use crate::writing::push_fields;
-use command_words::{Command, WordsError, read_words};
-use fleet_base::{Memory, Status, Text, push_bytes};
+use command_words::{Command, read_words};
+use fleet_base::{Memory, Status, Text, push_bytes, push_fields};
 use station_api::Shelf;
 use std::alloc::Global;
 
@@ -32,7 +33,7 @@ pub enum Task<'w> {
     Say(Reply),
     /// A plan is to be run, with the journal of this name, this budget and this flag.
     Serve {
-        papers: Papers,
+        papers: CheckedPapers,
         journal: &'w str,
         budget: u64,
         quiet: bool,
@@ -45,7 +46,7 @@ pub fn task_of<'w, H: Shelf>(
     words: &'w [String],
     shelf: &mut H,
 ) -> Result<Task<'w>, Memory>
-    ensures task { IfOk result (IsTask (record { tells = H.tells; file = H.file shelf.old }) (Rose (H.counts shelf.old).faults (H.counts shelf.new).faults) (map (λ w. string_bytes w) words.now)) }
+    ensures task { IfOk result (IsTask (files_of H.tells (H.file shelf.old)) (failed_at H.tells (H.asked shelf.new) (HasFailed (H.counts shelf.old) (H.counts shelf.new))) (map (λ w. string_bytes w) words.now)) }
     ensures counted { Counted (H.counts shelf.old) (H.counts shelf.new) }
 {
     match task_for(alloc, words, shelf) {
@@ -67,24 +68,22 @@ fn task_for<'w, H: Shelf>(
     words: &'w [String],
     shelf: &mut H,
 ) -> Result<Task<'w>, Refusal>
-    ensures task { IfOk result (IsTask (record { tells = H.tells; file = H.file shelf.old }) (Rose (H.counts shelf.old).faults (H.counts shelf.new).faults) (map (λ w. string_bytes w) words.now)) }
-    ensures refused { IfErr result (IsCalledFor (record { tells = H.tells; file = H.file shelf.old }) (Rose (H.counts shelf.old).faults (H.counts shelf.new).faults) (map (λ w. string_bytes w) words.now)) }
+    ensures task { IfOk result (IsTask (files_of H.tells (H.file shelf.old)) (failed_at H.tells (H.asked shelf.new) (HasFailed (H.counts shelf.old) (H.counts shelf.new))) (map (λ w. string_bytes w) words.now)) }
+    ensures refused { IfErr result (IsCalledFor (files_of H.tells (H.file shelf.old)) (failed_at H.tells (H.asked shelf.new) (HasFailed (H.counts shelf.old) (H.counts shelf.new))) (map (λ w. string_bytes w) words.now)) }
     ensures counted { Counted (H.counts shelf.old) (H.counts shelf.new) }
 {
-    match read_words(alloc, words) {
-        Ok(Command::Check { map, plan }) => {
+    match read_words(alloc, words)? {
+        Command::Check { map, plan } => {
             let papers = read_papers(alloc, shelf, map, plan)?;
             Ok(said(sound_text(alloc, sound_of(&papers))?))
         }
-        Ok(
-            Command::Run {
-                map,
-                plan,
-                journal,
-                budget,
-                quiet,
-            },
-        ) => {
+        Command::Run {
+            map,
+            plan,
+            journal,
+            budget,
+            quiet,
+        } => {
             let papers = read_papers(alloc, shelf, map, plan)?;
             Ok(Task::Serve {
                 papers,
@@ -93,17 +92,13 @@ fn task_for<'w, H: Shelf>(
                 quiet,
             })
         }
-        Ok(Command::Gen { seed, plan }) => Ok(said(fleet_text(alloc, seed, plan)?)),
-        Ok(
-            Command::Plan {
-                map,
-                scen,
-                robots,
-                horizon,
-            },
-        ) => Ok(said(plan_for(alloc, shelf, map, scen, robots, horizon)?)),
-        Err(WordsError::Usage) => Err(Refusal::Fault(Fault::Usage)),
-        Err(WordsError::Memory) => Err(Refusal::Memory),
+        Command::Gen { seed, plan } => Ok(said(fleet_text(alloc, seed, plan)?)),
+        Command::Plan {
+            map,
+            scen,
+            robots,
+            horizon,
+        } => Ok(said(plan_for(alloc, shelf, map, scen, robots, horizon)?)),
     }
 }
 

@@ -1,13 +1,15 @@
 // The top call.
 ghost use Rattle.std.specs.Prelude.{◌≡◌, ℕ, List, map, string_bytes};
 ghost use Rattle.fleet_base.specs.declared.geometry.PlannedVisit.{PlannedVisit};
-ghost use Rattle.station_api.specs.Causes.{Counted, Rose};
+ghost use Rattle.station_api.specs.Causes.{Counted};
 ghost use Rattle.fleet_recovery.specs.Papers.{Papers};
-ghost use Rattle.fleet_serve.specs.Told.{Told};
+ghost use Rattle.fleet_serve.specs.Told.{told};
+ghost use Rattle.fleet_serve.specs.Spans.{span};
 ghost use Rattle.command_words.specs.declared.command.Command.{Command};
 ghost use Rattle.fleet_cli.specs.Due.{IsAsked, IsMade};
-ghost use Rattle.fleet_cli.specs.Ends.{Call, EndsAs, MayOpen, IsSmooth, SendsIfMemory};
-ghost use Rattle.fleet_cli.specs.Runs.{Line};
+ghost use Rattle.fleet_cli.specs.Ends.{call, EndsAs, MayOpen, IsSmooth, SendsIfMemory};
+ghost use Rattle.fleet_cli.specs.Runs.{HasFailed, talk};
+ghost use Rattle.fleet_cli.specs.Papers.{files_of, failed_at};
 
 use crate::saying::say;
 use crate::session::run;
@@ -34,29 +36,21 @@ pub fn fleet_main<H: Shelf, S: Source, T: Station>(
     station: &mut T,
 ) -> Status
     // How the call ends, what it has taken and what it has sent, and what a stop at each moment of it leaves.
-    ensures ends { EndsAs (record {
-      words = map (λ w. string_bytes w) words.now;
-      files = record { tells = H.tells; file = H.file shelf.old };
-      shelf_failed = Rose (H.counts shelf.old).faults (H.counts shelf.new).faults;
-      talk = record {
-        input = record { tells = S.tells; before = S.left source.old; now = S.left source.new };
-        last_read = S.last source.new;
-        source_failed = Rose (S.counts source.old).faults (S.counts source.new).faults;
-        line = record { tells = T.tells; old = T.clock station.old; new = T.clock station.new; failed = Rose (T.counts station.old).faults (T.counts station.new).faults };
-      };
-    }) result }
+    ensures ends { EndsAs (call (map (λ w. string_bytes w) words.now) (files_of H.tells (H.file shelf.old)) (failed_at H.tells (H.asked shelf.new) (HasFailed (H.counts shelf.old) (H.counts shelf.new)))
+        (talk (told S.tells (S.left source.old) (S.left source.new)) (S.last source.new) (HasFailed (S.counts source.old) (S.counts source.new))
+        (span T.tells (T.clock station.old) (T.clock station.new)) (HasFailed (T.counts station.old) (T.counts station.new)))) result }
 
     // A command on a sound plan, over a shelf that tells its files, is not refused where nothing fails, nor is its journal if
     // the sides stand for a state.
-    ensures complete { (command : Command) (papers : Papers) (routes : List (List PlannedVisit)) → H.tells → IsAsked (record { tells = H.tells; file = H.file shelf.old }) (map (λ w. string_bytes w) words.now) command papers routes
+    ensures complete { (command : Command) (papers : Papers) (routes : List (List PlannedVisit)) → H.tells → IsAsked (files_of H.tells (H.file shelf.old)) (map (λ w. string_bytes w) words.now) command papers routes
         → MayOpen command routes papers T.tells (T.clock station.old).seen
-        → (Rose (H.counts shelf.old).faults (H.counts shelf.new).faults → ⊥) → (Rose (S.counts source.old).faults (S.counts source.new).faults → ⊥) → (Rose (T.counts station.old).faults (T.counts station.new).faults → ⊥)
+        → (HasFailed (H.counts shelf.old) (H.counts shelf.new) → ⊥) → (HasFailed (S.counts source.old) (S.counts source.new) → ⊥) → (HasFailed (T.counts station.old) (T.counts station.new) → ⊥)
         → IsSmooth command result }
 
     // Where the words and the files, which the shelf tells, ask for a text, and nothing fails, that text is sent, unless memory runs out.
-    ensures made { (text : List ℕ) → H.tells → IsMade (record { tells = H.tells; file = H.file shelf.old }) (map (λ w. string_bytes w) words.now) text
-        → (Rose (H.counts shelf.old).faults (H.counts shelf.new).faults → ⊥) → (Rose (T.counts station.old).faults (T.counts station.new).faults → ⊥)
-        → SendsIfMemory (record { tells = T.tells; old = T.clock station.old; new = T.clock station.new; failed = Rose (T.counts station.old).faults (T.counts station.new).faults }) text result }
+    ensures made { (text : List ℕ) → H.tells → IsMade (files_of H.tells (H.file shelf.old)) (map (λ w. string_bytes w) words.now) text
+        → (HasFailed (H.counts shelf.old) (H.counts shelf.new) → ⊥) → (HasFailed (T.counts station.old) (T.counts station.new) → ⊥)
+        → SendsIfMemory (span T.tells (T.clock station.old) (T.clock station.new)) text result }
 
     // The counts never fall.
     ensures shelf { Counted (H.counts shelf.old) (H.counts shelf.new) }

@@ -2,8 +2,9 @@ use Rattle.std.proofs.Common.{◌∙◌, List, [], ◌∷◌, ◌++◌, refl, sy
 use Rattle.fleet_base.specs.declared.geometry.PlannedVisit.{PlannedVisit}
 use Rattle.fleet_base.specs.State.{FleetState}
 use Rattle.fleet_base.specs.World.{Marked}
-use Rattle.fleet_serve.specs.declared.outcome.Settings.{Settings}
-use Rattle.fleet_serve.specs.Lines.{greeting_of, text_of}
+use Rattle.fleet_base.specs.Bytes.{text_of_lines}
+use Rattle.fleet_serve.specs.declared.session.Settings.{Settings}
+use Rattle.fleet_serve.specs.Lines.{greeting_of}
 use Rattle.fleet_cli.specs.Lives.{SessionMade, kept}
 use Rattle.fleet_cli.proofs.LivesJoining.{first_of}
 use Rattle.fleet_cli.proofs.laws.a_new_journal_opens.Goals as goal
@@ -15,7 +16,7 @@ opened routes settings x = record {
   start = record { state = x; place = 0 };
   turns = [];
   first = x;
-  events = Marked (record { state = x; sent = text_of (greeting_of routes x) }) ∷ [];
+  events = Marked (record { state = x; sent = text_of_lines (greeting_of routes x) }) ∷ [];
 }
 
 pub returns : goal.returns
@@ -28,8 +29,8 @@ returns c = λ routes settings window x may first.
         record {
           begins = (first_of routes window x may first, refl);
           turns = tt;
-          opens = ([], kept 0 [] (inl refl) (inl refl) refl (text_of (lines ++ []), refl) refl);
-          marks = (([], kept 0 [] (inl refl) (inl refl) refl ([], append-nil (text_of lines) ∙ ap text_of (sym (append-nil lines))) refl), (text_of lines, refl), tt);
+          opens = ([], kept 0 [] (inl refl) (inl refl) refl (text_of_lines (lines ++ []), refl) refl);
+          marks = (([], kept 0 [] (inl refl) (inl refl) refl ([], append-nil (text_of_lines lines) ∙ ap text_of_lines (sym (append-nil lines))) refl), (text_of_lines lines, refl), tt);
         },
         tt,
       ),
