@@ -1,0 +1,4 @@
+pub mod Firsts
+pub mod Robots
+pub mod Runs
+pub mod LateText
